@@ -1,0 +1,5 @@
+pub mod Orders
+pub mod Tables
+pub mod Masks
+pub mod Ones
+pub mod Differ
