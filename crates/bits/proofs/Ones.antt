@@ -5,7 +5,7 @@ use native.Mathlib.Omega.{arith}
 use native.Mathlib.Nat.{mod-lt, one-mul, add-zero}
 use lib.Pow.{pow-pos}
 use lib.Count.{ones, ones-le, ones-step, ones-cat}
-use Rattle.bits.specs.Digits.{Ones}
+use Rattle.bits.specs.Digits.{onesBelow, Ones}
 use Rattle.bits.specs.Masks.{Power}
 
 pub ones-zero : ones 0 ≡ 0
@@ -36,3 +36,6 @@ ones-not (suc k) r h =
 -- the count of ones of a remainder, as the code takes it
 pub ones-law : (s x p : ℕ) → Power s p → Ones s x (ones (x % p))
 ones-law s x p h = record { is = ap (λ (z : ℕ). ones (x % z)) (h .is); most = rw (h .is) (ones-le s (x % 2 ^ s) (mod-lt x (pow-pos s))) }
+
+pub ones-self : (s x : ℕ) → Ones s x (onesBelow s x)
+ones-self s x = record { is = refl; most = ones-le s (x % 2 ^ s) (mod-lt x (pow-pos s)) }
