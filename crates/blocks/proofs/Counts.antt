@@ -46,8 +46,13 @@ count-most n low high h o f = go (le-or-lt low 0) (le-or-lt (2 ^ n) (high + 1))
         let s = t .0 in
         let z = ones-self s (low - 1) in
         let b = ones-self s (high + 1) in
-        omega (arith, t .1 .place, b .most, count-mid n low high (λ (x : low ≡ 0). omega arith) (λ (x : high + 1 ≡ 2 ^ n). omega arith) s
-        (omega (arith, t .1 .place)) (t .1 .differ) (onesBelow s (low - 1)) (onesBelow s (high + 1)) z b)
+        omega (
+          arith,
+          t .1 .place,
+          b .most,
+          count-mid n low high (λ (x : low ≡ 0). omega arith) (λ (x : high + 1 ≡ 2 ^ n). omega arith) s
+              (omega (arith, t .1 .place)) (t .1 .differ) (onesBelow s (low - 1)) (onesBelow s (high + 1)) z b,
+        )
 
 -- 2n - 2 would be 0 here, and one word is needed
 pub count-one : (low high : ℕ) → low ≤ high → high < 2 ^ 1 → countOf 1 low high ≡ 1

@@ -4,3 +4,9 @@ pub mod Members
 pub mod Lowest
 pub mod Lengths
 pub mod Counts
+pub mod Agreement
+pub mod Matching
+pub mod Covers
+pub mod Sizes
+pub mod Shortest
+pub mod OneList

@@ -121,8 +121,8 @@ module _ (k v low end q : ℕ) (e : v ≡ q * 2 ^ suc k) (p : v ≤ low) (h : lo
   same-free : (Inside low end v (suc k) → ⊥) → freeOf (suc k) low end ≡ freeOf k low end
   same-free i =
       let f : reaches? low end (suc k) ≡ false = reaches-false low end (suc k) (λ (m : low % 2 ^ suc k ≡ 0) (f : low + 2 ^ suc k ≤ end).
-          let s : low ≡ v = no-between q (2 ^ suc k) v low e m p h in
-          i (record { low-in = omega arith; end-in = omega arith })) in
+      let s : low ≡ v = no-between q (2 ^ suc k) v low e m p h in
+      i (record { low-in = omega arith; end-in = omega arith })) in
       let s : suc k - 1 ≡ k = omega arith in
       free-down (suc k) low end (omega arith) f ∙ ap (λ (x : ℕ). freeOf x low end) s
 

@@ -1,0 +1,9 @@
+-- The two kinds of answer: done with up to four values, refused with a number and up to two values.
+use Prim.Native.Nat.{ℕ}
+use Rattle.answers.specs.declared.Answer.{Answer}
+
+abbrev pub done : ℕ → ℕ → ℕ → ℕ → Answer
+done a b c d = record { no = 0; a = a; b = b; c = c; d = d }
+
+abbrev pub refused : ℕ → ℕ → ℕ → Answer
+refused number a b = record { no = number; a = a; b = b; c = 0; d = 0 }

@@ -1,0 +1,26 @@
+-- The numbers of document 01's refusals, each named for what it is given for. Where several apply, the lowest is given.
+use Prim.Native.Nat.{ℕ}
+
+-- the width is not 1 .. 16
+abbrev pub width : ℕ
+width = 1
+
+-- an interval end or open bound does not fit
+abbrev pub fit : ℕ
+fit = 2
+
+-- low > high, or B - A < 2
+abbrev pub order : ℕ
+order = 3
+
+-- a list to be written has fewer than 2k numbers of room; k comes with it
+abbrev pub room : ℕ
+room = 4
+
+-- the stated word count exceeds the room
+abbrev pub stated : ℕ
+stated = 9
+
+-- a counted word is ill formed; the lowest such index comes with it
+abbrev pub ill : ℕ
+ill = 10

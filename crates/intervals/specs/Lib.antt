@@ -1,0 +1,5 @@
+pub mod Ends
+pub mod Bounds
+pub mod Lists
+pub mod Walks
+pub mod Checks
