@@ -1,44 +1,52 @@
+-- `intervals::bounds::join` meets its contract: in each arm, what `ends` says of the two places. Assumes nothing.
+use Prim.Native.Nat.{_+_}
+use native.Mathlib.Omega.{arith}
 use borrow.Author.Needs.{needs}
+use borrow.Author.Tests.{lt-ltb, le-ltb}
+use Rattle.intervals.specs.Bounds.{ends}
 use Rattle.intervals.proofs.bounds.join.Statement.{statement}
 use Rattle.intervals.proofs.bounds.join.Tie as tie
-use Rattle.intervals.proofs.bounds.join.Reads as reads
-use Rattle.intervals.proofs.bounds.join.Lts as lts
 
--- src/bounds.rt:40:21
 enum-known-x : tie.Need-enum-known-x
 enum-known-x c = search needs
 
--- src/bounds.rt:41:32
 enum-told : tie.Need-enum-told
 enum-told c = search needs
 
--- src/bounds.rt:41:9
 returns : tie.Need-returns
-returns c = ?
+unfolding ends
+returns c = rw (c .enum-told .given .1)
 
--- src/bounds.rt:43:21
 enum-known-y : tie.Need-enum-known-y
 enum-known-y c = search needs
 
--- src/bounds.rt:44:32
 enum-told-2 : tie.Need-enum-told-2
 enum-told-2 c = search needs
 
--- src/bounds.rt:44:9
 returns-2 : tie.Need-returns-2
-returns-2 c = ?
+unfolding ends
+returns-2 c = rw (c .before .before .before .x .given .1, c .enum-told2 .given .1)
 
--- src/bounds.rt:47:9
 returns-3 : tie.Need-returns-3
-returns-3 c = ?
+unfolding ends
+returns-3 c =
+    let x = c .before .before .before .before .before .x .given in
+    let y = c .before .before .y .given in
+    rw (x .1, y .1, lt-ltb (y .0 .0) (x .0 .0 + 2) (omega arith))
 
--- src/bounds.rt:50:9
 returns-4 : tie.Need-returns-4
-returns-4 c = ?
+unfolding ends
+returns-4 c =
+    let x = c .before .before .before .before .before .before .x .given in
+    let y = c .before .before .before .y .given in
+    rw (x .1, y .1, lt-ltb (y .0 .0) (x .0 .0 + 2) (omega arith))
 
--- src/bounds.rt:37:1
 returns-5 : tie.Need-returns-5
-returns-5 c = ?
+unfolding ends
+returns-5 c =
+    let x = c .before .before .before .before .before .before .x .given in
+    let y = c .before .before .before .y .given in
+    rw (x .1, y .1, le-ltb (y .0 .0) (x .0 .0 + 2) (omega arith))
 
 pub join-spec : {M : Type 1} → statement M
 join-spec =

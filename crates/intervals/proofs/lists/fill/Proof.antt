@@ -1,84 +1,73 @@
+-- `intervals::lists::fill` meets its contract: at each turn what is written and the words that are left make up the list.
+-- Assumes nothing.
+use Prim.Native.Nat.{_-_}
+use native.Mathlib.Omega.{arith}
+use borrow.Author.Needs.{needs}
+use lib.ListN.{length-set}
+use lib.Pow.{pow-mono}
+use Rattle.intervals.proofs.Filling.{Filled, filled-start, filled-room, filled-more, filled-end}
 use Rattle.intervals.proofs.lists.fill.Statement.{statement}
 use Rattle.intervals.proofs.lists.fill.Tie as tie
-use Rattle.intervals.proofs.lists.fill.Reads as reads
-use Rattle.intervals.proofs.lists.fill.Lts as lts
-use Rattle.bits.proofs.mask.Reads as mask-reads
-use Rattle.bits.proofs.power.Reads as power-reads
-use Rattle.blocks.proofs.free_bits.Reads as free-bits-reads
 
 abbrev Inv-loop : tie.InvT-loop
-Inv-loop n low high out₀ end next₀ i₀ out next i = ?
+Inv-loop n low high out₀ end next₀ i₀ out next i = Filled n low end out₀ out next i
 
 abbrev μ-loop : tie.MeasureT-loop
-μ-loop n low high out₀ end next₀ i₀ out next i = ?
+μ-loop n low high out₀ end next₀ i₀ out next i = end - next
 
--- src/lists.rt:39:15
 add-end : tie.Need-add-end Inv-loop μ-loop
-add-end c = ?
+add-end c = omega (arith, pow-mono (c .before .pre .0 .most))
 
--- src/lists.rt:42:5
 loop-holds : tie.Need-loop-holds Inv-loop μ-loop
-loop-holds c = ?
+loop-holds c = filled-start _ _ _ _ (omega arith) (c .before .pre .1)
 
--- src/lists.rt:43:13
 free-bits-requires : tie.Need-free-bits-requires Inv-loop μ-loop
-free-bits-requires c κs = ?
+free-bits-requires c κs = omega (arith, pow-mono (c .before .before .before .pre .0 .most))
 
--- src/lists.rt:44:18
 cast-out : tie.Need-cast-out Inv-loop μ-loop
-cast-out c = ?
+cast-out c = omega (arith, pow-mono (c .before .before .before .before .pre .0 .most))
 
--- src/lists.rt:44:9
 mul-out : tie.Need-mul-out Inv-loop μ-loop
-mul-out c = ?
+mul-out c = search needs
 
--- src/lists.rt:44:9
 slice-write-out : tie.Need-slice-write-out Inv-loop μ-loop
-slice-write-out c = ?
+slice-write-out c = omega (arith, filled-room _ _ _ _ _ _ _ (c .before .before .loop .inv) (omega arith) (omega arith))
 
--- src/lists.rt:45:22
 mask-requires : tie.Need-mask-requires Inv-loop μ-loop
-mask-requires c κs = ?
+mask-requires c κs = search needs
 
--- src/lists.rt:45:13
 add-out : tie.Need-add-out Inv-loop μ-loop
-add-out c = ?
+add-out c = search needs
 
--- src/lists.rt:45:9
 mul-out-2 : tie.Need-mul-out-2 Inv-loop μ-loop
-mul-out-2 c = ?
+mul-out-2 c = search needs
 
--- src/lists.rt:45:9
 slice-write-out-2 : tie.Need-slice-write-out-2 Inv-loop μ-loop
-slice-write-out-2 c = ?
+slice-write-out-2 c = simp length-set (filled-room _ _ _ _ _ _ _ (c .before .before .before .loop .inv) (omega arith) (omega arith))
 
--- src/lists.rt:46:9
 add-i : tie.Need-add-i Inv-loop μ-loop
-add-i c = ?
+add-i c = search needs
 
--- src/lists.rt:47:17
 power-requires : tie.Need-power-requires Inv-loop μ-loop
-power-requires c κs = ?
+power-requires c κs = search needs
 
--- src/lists.rt:47:9
 add-next : tie.Need-add-next Inv-loop μ-loop
-add-next c = ?
+add-next c = search needs
 
--- src/lists.rt:42:5
 loop-less : tie.Need-loop-less Inv-loop μ-loop
-loop-less c = ?
+loop-less c = omega arith
 
--- src/lists.rt:42:5
 loop-again : tie.Need-loop-again Inv-loop μ-loop
-loop-again c = ?
+loop-again c =
+    let l = c .before .before .before .before .loop in
+    let k = c .before .before .free-bits in
+    filled-more _ _ _ _ (l .out) (l .next) (l .i) (l .inv) (omega arith) (omega arith) (k .result) _ _ (k .ensures .is) (c .before .mask .ensures) (c .power .ensures)
 
--- src/lists.rt:34:1
 same-length : tie.Need-same-length Inv-loop μ-loop
-same-length c = ?
+same-length c = c .before .loop .inv .same
 
--- src/lists.rt:34:1
 returns : tie.Need-returns Inv-loop μ-loop
-returns c = ?
+returns c = filled-end _ _ _ _ _ _ _ (c .before .loop .inv) (omega arith)
 
 pub fill-spec : {M : Type 1} → statement M
 fill-spec =

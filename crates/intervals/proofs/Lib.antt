@@ -1,0 +1,5 @@
+pub mod Testing
+pub mod Closing
+pub mod Filling
+pub mod Steps
+pub mod Walked
