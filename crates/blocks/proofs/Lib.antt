@@ -6,7 +6,9 @@ pub mod Lengths
 pub mod Counts
 pub mod Agreement
 pub mod Matching
+pub mod Held
 pub mod Covers
 pub mod Sizes
 pub mod Shortest
 pub mod OneList
+pub mod Demand3

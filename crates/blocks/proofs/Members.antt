@@ -1,6 +1,6 @@
 -- The tiles are the largest blocks, ascending, each once. Assumes nothing.
 use mathlib.Core.Path.{_≡_, refl, sym, ap, ap₂, _∙_, subst}
-use mathlib.Core.List.{List, [], _∷_, _++_, List·Memᴰ, List·Memᴰ·head, List·Memᴰ·not-nil, List·Memᴰ·eq-of-singleton, List·Memᴰ·append-cases, Memᴰ·append-left, Memᴰ·append-right}
+use mathlib.Core.List.{List, [], _∷_, _++_, List·Memᴰ, List·Memᴰ·head, List·Memᴰ·not-nil, List·Memᴰ·eq-of-singleton, List·Memᴰ·append-cases, List·Memᴰ·cases-cons, Memᴰ·append-left, Memᴰ·append-right}
 use mathlib.Core.Logic.{_⊎_, inl, inr, ⊎-elim}
 use Prim.Native.Nat.{ℕ, zero, suc, _+_, _-_, _*_, _/_, _%_, _^_, _≤_, _<_}
 use native.Mathlib.Omega.{arith}
@@ -204,6 +204,15 @@ ascending (suc k) v low end = go (inside-dec low end v (suc k)) (ascending k v l
         → Ascends (v + 2 ^ k) (tiles k (v + 2 ^ k) low end) (v + 2 ^ k + 2 ^ k) → Ascends v (tiles (suc k) v low end) (v + 2 ^ suc k)
     go (inl i) a b = rw (whole (suc k) v low end i) (omega arith)
     go (inr i) a b = rw (split k v low end i, ← two) (joined v (v + 2 ^ k) (v + 2 ^ k + 2 ^ k) (tiles k v low end) (tiles k (v + 2 ^ k) low end) a b)
+
+-- so none starts below where the list does
+pub starts-above : (x y : ℕ) (bs : List Block) → Ascends x bs y → (d : Block) → List·Memᴰ d bs → x ≤ d .from
+starts-above x y [] s d m = absurd (List·Memᴰ·not-nil m)
+starts-above x y (b ∷ bs) s d m = go (List·Memᴰ·cases-cons m) (starts-above (b .from + 2 ^ b .free) y bs (s .1) d)
+  where
+    go : (d ≡ b) ⊎ List·Memᴰ d bs → (List·Memᴰ d bs → b .from + 2 ^ b .free ≤ d .from) → x ≤ d .from
+    go (inl e) f = omega (arith, s .0, ap (λ (c : Block). c .from) e)
+    go (inr t) f = omega (arith, s .0, f t)
 
 -- ---- the list of document 01: the largest blocks of the interval, ascending, each once
 

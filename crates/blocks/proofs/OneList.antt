@@ -6,18 +6,11 @@ use Prim.Native.Nat.{ℕ, _+_, _^_, _≤_, _<_}
 use native.Mathlib.Omega.{arith}
 use lib.Pow.{pow-pos}
 use Rattle.blocks.specs.Blocks.{Block, Ascends, Lists}
+use Rattle.blocks.proofs.Members.{starts-above}
 
 -- each block of the first list is in the second
 abbrev Among : List Block → List Block → Type 0
 Among bs cs = (d : Block) → List·Memᴰ d bs → List·Memᴰ d cs
-
-starts-above : (x y : ℕ) (bs : List Block) → Ascends x bs y → (d : Block) → List·Memᴰ d bs → x ≤ d .from
-starts-above x y [] s d m = absurd (List·Memᴰ·not-nil m)
-starts-above x y (b ∷ bs) s d m = go (List·Memᴰ·cases-cons m) (starts-above (b .from + 2 ^ b .free) y bs (s .1) d)
-  where
-    go : (d ≡ b) ⊎ List·Memᴰ d bs → (List·Memᴰ d bs → b .from + 2 ^ b .free ≤ d .from) → x ≤ d .from
-    go (inl e) f = omega (arith, s .0, ap (λ (c : Block). c .from) e)
-    go (inr t) f = omega (arith, s .0, f t)
 
 later-above : (x y : ℕ) (b : Block) (bs : List Block) → Ascends x (b ∷ bs) y → (d : Block) → List·Memᴰ d bs → b .from < d .from
 later-above x y b bs s d m = omega (arith, starts-above (b .from + 2 ^ b .free) y bs (s .1) d m, pow-pos (b .free))

@@ -1,55 +1,31 @@
--- No list of blocks that covers exactly the interval is shorter. Assumes nothing.
-use mathlib.Core.Path.{_≡_, refl, sym, ap, _∙_}
-use mathlib.Core.List.{List, [], _∷_, List·Memᴰ, List·Memᴰ·head, List·Memᴰ·tail, List·Memᴰ·not-nil, List·Memᴰ·cases-cons}
+-- No list of prefix words that matches exactly the interval is shorter than the list of its largest blocks: in a block that
+-- is split every word of such a list lies in one half, so each half needs as many as its own list. Assumes nothing.
+use mathlib.Core.Path.{_≡_, refl, sym, ap, ap₂, _∙_}
+use mathlib.Core.List.{List, [], _∷_, map, List·Memᴰ, List·Memᴰ·head, List·Memᴰ·tail, List·Memᴰ·not-nil, List·Memᴰ·cases-cons}
 use mathlib.Core.Logic.{_⊎_, inl, inr, ⊎-elim, ⊎-map}
 use Prim.Native.Nat.{ℕ, zero, suc, _+_, _-_, _*_, _%_, _^_, _≤_, _<_}
 use native.Mathlib.Omega.{arith}
-use native.Mathlib.Nat.{zero-mul}
-use lib.ListN.{length, length-append}
+use native.Mathlib.Nat.{one-mul, zero-mul}
+use lib.ListN.{length, length-append, length-map}
 use lib.Pow.{pow-pos}
 use Rattle.bits.proofs.Orders.{le-or-lt}
-use Rattle.blocks.specs.Blocks.{Block, tiles, Inside}
-use Rattle.blocks.proofs.Tiles.{inside-dec, whole, single, split, half-start, half-mid}
+use Rattle.blocks.specs.Blocks.{Block, Inside, block, blocksOf, prefixOf, tiles}
+use Rattle.blocks.specs.Words.{Exactly, Prefix, Some}
+use Rattle.blocks.specs.declared.Word.{Word}
+use Rattle.blocks.proofs.Held.{AllFit, Fits, Held, held-some, some-held}
+use Rattle.blocks.proofs.Matching.{prefix-block}
 use Rattle.blocks.proofs.Multiples.{finer, floor-high}
-
--- the block's values
-abbrev pub Holds : Block → ℕ → Type 0
-Holds b x = (b .from ≤ x) × (x < b .from + 2 ^ b .free)
-
--- some block of the list holds x
-abbrev pub Held : List Block → ℕ → Type 0
-Held [] x = ⊥
-Held (b ∷ bs) x = Holds b x ⊎ Held bs x
+use Rattle.blocks.proofs.Tiles.{inside-dec, whole, single, split, half-start, half-mid}
 
 -- an aligned block within the block of k free bits from v on
-pub record Within (k v : ℕ) (b : Block) : Type 0 where
-  pub depth : b .free ≤ k
-  pub aligned : b .from % 2 ^ b .free ≡ 0
-  pub start : v ≤ b .from
-  pub stop : b .from + 2 ^ b .free ≤ v + 2 ^ k
+record Within (k v : ℕ) (b : Block) : Type 0 where
+  depth : b .free ≤ k
+  aligned : b .from % 2 ^ b .free ≡ 0
+  start : v ≤ b .from
+  stop : b .from + 2 ^ b .free ≤ v + 2 ^ k
 
--- ---- what a list holds, by its members
-
-record Holder (bs : List Block) (x : ℕ) : Type 0 where
-  holding : Block
-  member : List·Memᴰ holding bs
-  holds : Holds holding x
-
-holder : (bs : List Block) (x : ℕ) → Held bs x → Holder bs x
-holder [] x h = absurd h
-holder (b ∷ bs) x (inl h) = record { holding = b; member = List·Memᴰ·head refl; holds = h }
-holder (b ∷ bs) x (inr h) = let r = holder bs x h in record { holding = r .holding; member = List·Memᴰ·tail (r .member); holds = r .holds }
-
-held : (bs : List Block) (x : ℕ) (b : Block) → List·Memᴰ b bs → Holds b x → Held bs x
-held [] x b m h = absurd (List·Memᴰ·not-nil m)
-held (c ∷ cs) x b m h = go (List·Memᴰ·cases-cons m) (held cs x b)
-  where
-    go : (b ≡ c) ⊎ List·Memᴰ b cs → (List·Memᴰ b cs → Holds b x → Held cs x) → Held (c ∷ cs) x
-    go (inl e) f = inl (rw e at h)
-    go (inr t) f = inr (f t h)
-
-some-block : (bs : List Block) (x : ℕ) → Holder bs x → 1 ≤ length bs
-some-block [] x r = absurd (List·Memᴰ·not-nil (r .member))
+some-block : (bs : List Block) (x : ℕ) → Held bs x → 1 ≤ length bs
+some-block [] x r = absurd (List·Memᴰ·not-nil (r .listed))
 some-block (b ∷ bs) x r = omega arith
 
 -- ---- a list in two parts: the blocks that start below m, and the others
@@ -127,7 +103,7 @@ module _ (k v q low end : ℕ) (ev : v ≡ q * 2 ^ suc k) (out : Inside low end 
 record Covers (k v low end : ℕ) (bs : List Block) : Type 0 where
   within : (b : Block) → List·Memᴰ b bs → Within k v b
   inside : (b : Block) → List·Memᴰ b bs → Inside low end (b .from) (b .free)
-  covers : (x : ℕ) → v ≤ x → x < v + 2 ^ k → low ≤ x → x < end → Holder bs x
+  covers : (x : ℕ) → v ≤ x → x < v + 2 ^ k → low ≤ x → x < end → Held bs x
 
 one-block : (k v low end : ℕ) (bs : List Block) → Covers k v low end bs → Inside low end v k → length (tiles k v low end) ≤ length bs
 one-block k v low end bs c i =
@@ -147,11 +123,11 @@ module _ (k v q low end : ℕ) (ev : v ≡ q * 2 ^ suc k) (out : Inside low end 
     covers = λ (x : ℕ) (s : v ≤ x) (t : x < v + 2 ^ k) (lo : low ≤ x) (hi : x < end). go x t (c .covers x s (omega arith) lo hi);
   }
     where
-      go : (x : ℕ) → x < v + 2 ^ k → Holder bs x → Holder (p .lows) x
+      go : (x : ℕ) → x < v + 2 ^ k → Held bs x → Held (p .lows) x
       go x t h =
-          let b = h .holding in
-          ⊎-elim (λ (l : List·Memᴰ b (p .lows)). record { holding = b; member = l; holds = h .holds })
-          (λ (l : List·Memᴰ b (p .highs)). absurd (omega (arith, p .above b l .1, h .holds .0))) (p .either b (h .member))
+          let b = h .by in
+          ⊎-elim (λ (l : List·Memᴰ b (p .lows)). record { by = b; listed = l; holds = h .holds })
+          (λ (l : List·Memᴰ b (p .highs)). absurd (omega (arith, p .above b l .1, h .holds .start))) (p .either b (h .listed))
 
   covers-high : Covers k (v + 2 ^ k) low end (p .highs)
   covers-high = record {
@@ -160,11 +136,11 @@ module _ (k v q low end : ℕ) (ev : v ≡ q * 2 ^ suc k) (out : Inside low end 
     covers = λ (x : ℕ) (s : v + 2 ^ k ≤ x) (t : x < v + 2 ^ k + 2 ^ k) (lo : low ≤ x) (hi : x < end). go x s (c .covers x (omega arith) (omega arith) lo hi);
   }
     where
-      go : (x : ℕ) → v + 2 ^ k ≤ x → Holder bs x → Holder (p .highs) x
+      go : (x : ℕ) → v + 2 ^ k ≤ x → Held bs x → Held (p .highs) x
       go x s h =
-          let b = h .holding in
-          ⊎-elim (λ (l : List·Memᴰ b (p .lows)). absurd (omega (arith, in-low b l .stop, h .holds .1)))
-          (λ (l : List·Memᴰ b (p .highs)). record { holding = b; member = l; holds = h .holds }) (p .either b (h .member))
+          let b = h .by in
+          ⊎-elim (λ (l : List·Memᴰ b (p .lows)). absurd (omega (arith, in-low b l .stop, h .holds .stop)))
+          (λ (l : List·Memᴰ b (p .highs)). record { by = b; listed = l; holds = h .holds }) (p .either b (h .listed))
 
 shortest : (k v q low end : ℕ) → v ≡ q * 2 ^ k → (bs : List Block) → Covers k v low end bs → length (tiles k v low end) ≤ length bs
 shortest zero v q low end e bs c = go (inside-dec low end v zero)
@@ -186,16 +162,54 @@ shortest (suc k) v q low end e bs c =
         let b = r (p .highs) (covers-high k v q low end e i bs c p) in
         rw (split k v low end i, length-append) (omega (arith, p .together))
 
-pub shortest-blocks : (n low end : ℕ) → end ≤ 2 ^ n → (bs : List Block) → ((b : Block) → List·Memᴰ b bs → Within n 0 b)
-    → ((x : ℕ) → low ≤ x → x < end → Held bs x) → ((x : ℕ) → x < 2 ^ n → Held bs x → (low ≤ x) × (x < end))
-    → length (tiles n 0 low end) ≤ length bs
-shortest-blocks n low end h bs within covers only = shortest n 0 0 low end (sym (zero-mul (2 ^ n))) bs (record {
-  within = within;
-  inside = λ (b : Block) (m : List·Memᴰ b bs).
-      let s = 2 ^ b .free in
-      let some : 0 < s = pow-pos (b .free) in
-      let stop : b .from + s ≤ 0 + 2 ^ n = within b m .stop in
-      let last : b .from + s - 1 < end = only (b .from + s - 1) (omega arith) (held bs (b .from + s - 1) b m (omega arith, omega arith)) .1 in
-      record { low-in = only (b .from) (omega arith) (held bs (b .from) b m (omega arith, omega arith)) .0; end-in = omega arith };
-  covers = λ (x : ℕ) (s : 0 ≤ x) (t : x < 0 + 2 ^ n) (lo : low ≤ x) (hi : x < end). holder bs x (covers x lo hi);
-})
+-- ---- prefix words as blocks
+
+-- the blocks of a list of prefix words
+record Blocked (n : ℕ) (ws : List Word) : Type 0 where
+  blocks : List Block
+  fit : AllFit n blocks
+  words : map (prefixOf n) blocks ≡ ws
+
+word-fits : (n : ℕ) (w : Word) → (p : Prefix n w) → Fits n (block (w .value) (n - p .leading))
+word-fits n w p =
+    let k = n - p .leading in
+    let e : 2 ^ n ≡ 2 ^ (n - k) * 2 ^ k = sym (one-mul (2 ^ n)) ∙ finer 1 n k (omega arith) ∙ ap (λ (z : ℕ). z * 2 ^ k) (one-mul (2 ^ (n - k))) in
+    let a = prefix-block n w p .1 in
+    let h : w .value < 2 ^ (n - k) * 2 ^ k = rw e at (p .formed .value-fits) in
+    record { wide = omega arith; aligned = a; ends = omega (arith, floor-high (2 ^ (n - k)) (2 ^ k) (w .value) h) }
+
+blocked : (n : ℕ) (ws : List Word) → ((w : Word) → List·Memᴰ w ws → Prefix n w) → Blocked n ws
+blocked n [] p = record { blocks = []; fit = λ (b : Block) (m : List·Memᴰ b []). absurd (List·Memᴰ·not-nil m); words = refl }
+blocked n (w ∷ ws) p =
+    let r = blocked n ws (λ (v : Word) (m : List·Memᴰ v ws). p v (List·Memᴰ·tail m)) in
+    let q = p w (List·Memᴰ·head refl) in
+    let c = block (w .value) (n - q .leading) in
+    record {
+      blocks = c ∷ r .blocks;
+      fit = λ (b : Block) (m : List·Memᴰ b (c ∷ r .blocks)). ⊎-elim (λ (e : b ≡ c). rw e (word-fits n w q)) (r .fit b) (List·Memᴰ·cases-cons m);
+      words = ap₂ (λ (v : Word) (vs : List Word). v ∷ vs) (sym (prefix-block n w q .0)) (r .words);
+    }
+
+-- No list of prefix words that matches exactly the interval is shorter than the list of largest blocks.
+pub none-shorter : (n low high : ℕ) (ws : List Word) → ((w : Word) → List·Memᴰ w ws → Prefix n w) → Exactly n low high ws
+    → length (blocksOf n low high) ≤ length ws
+none-shorter n low high ws p x =
+    let r = blocked n ws p in
+    let bs = r .blocks in
+    let covers : (y : ℕ) → low ≤ y → y ≤ high → Some (map (prefixOf n) bs) y = rw (r .words) (x .covers) in
+    let only : (y : ℕ) → y < 2 ^ n → Some (map (prefixOf n) bs) y → (low ≤ y) × (y ≤ high) = rw (r .words) (x .within) in
+    let l : length bs ≡ length ws = sym (length-map bs (prefixOf n)) ∙ ap length (r .words) in
+    let short = shortest n 0 0 low (high + 1) (sym (zero-mul (2 ^ n))) bs (record {
+      within = λ (b : Block) (m : List·Memᴰ b bs).
+          let f = r .fit b m in
+          record { depth = f .wide; aligned = f .aligned; start = omega arith; stop = omega arith };
+      inside = λ (b : Block) (m : List·Memᴰ b bs).
+          let f = r .fit b m in
+          let s : 0 < 2 ^ b .free = pow-pos (b .free) in
+          let y = b .from + 2 ^ b .free - 1 in
+          let first = only (b .from) (omega arith) (held-some n (b .from) bs (r .fit) b m (record { start = omega arith; stop = omega arith })) in
+          let last = only y (omega arith) (held-some n y bs (r .fit) b m (record { start = omega arith; stop = omega arith })) in
+          record { low-in = first .0; end-in = omega (arith, last .1) };
+      covers = λ (y : ℕ) (s : 0 ≤ y) (t : y < 0 + 2 ^ n) (lo : low ≤ y) (hi : y < high + 1). some-held n y bs (r .fit) (omega arith) (covers y lo (omega arith));
+    }) in
+    omega arith

@@ -6,7 +6,7 @@ use Prim.Native.Nat.{ℕ, suc, _+_, _*_, _^_, _≤_, _<_}
 use native.Mathlib.Numerals.{add-one, add-two}
 use native.Mathlib.Omega.{arith}
 use lib.Dec.{eqb}
-use lib.ListN.{length, length-set, take, drop, set, take-append-drop}
+use lib.ListN.{length, length-map, length-set, take, drop, set, take-append-drop}
 use lib.Seq.{take-suc-set, drop-set-lt, length-take-le, drop-drop}
 use borrow.Author.Tests.{lt-ltb, le-ltb}
 use Rattle.answers.specs.Answers.{done, refused}
@@ -39,15 +39,11 @@ unfolding numbers
 length-numbers [] = refl
 length-numbers (w ∷ ws) = omega (arith, length-numbers ws)
 
-length-map : (f : Block → Word) (bs : List Block) → length (map f bs) ≡ length bs
-length-map f [] = refl
-length-map f (b ∷ bs) = ap suc (length-map f bs)
-
 -- the count of document 01 is the number of words listed
 pub length-words : (n low high : ℕ) → Closed n low high → length (numbersOf n low high) ≡ 2 * countOf n low high
 length-words n low high c =
     length-numbers (map (prefixOf n) (tiles n 0 low (high + 1)))
-    ∙ ap (λ (x : ℕ). 2 * x) (length-map (prefixOf n) (tiles n 0 low (high + 1)) ∙ sym (count-tiles n low high (c .order) (c .fits)))
+    ∙ ap (λ (x : ℕ). 2 * x) (length-map (tiles n 0 low (high + 1)) (prefixOf n) ∙ sym (count-tiles n low high (c .order) (c .fits)))
 
 -- the numbers from next on: the lowest word, and those after its block
 next-numbers : (n next end : ℕ) → next < end → end ≤ 2 ^ n
