@@ -3,3 +3,4 @@ pub mod Bounds
 pub mod Lists
 pub mod Walks
 pub mod Checks
+pub mod Cases
