@@ -3,3 +3,4 @@ pub mod Closing
 pub mod Filling
 pub mod Steps
 pub mod Walked
+pub mod Settled
