@@ -1,0 +1,46 @@
+// Pieces of a line on standard output.
+use intervals::Fault;
+use libc::STDOUT_FILENO;
+
+pub fn text(s: &[u8]) {
+    io::write_all(STDOUT_FILENO, s);
+}
+
+pub fn number(x: u32) {
+    io::print_decimal(STDOUT_FILENO, x as u64);
+}
+
+pub fn size(x: usize) {
+    io::print_decimal(STDOUT_FILENO, x as u64);
+}
+
+pub fn half(x: u16) {
+    io::print_decimal(STDOUT_FILENO, x as u64);
+}
+
+pub fn end() {
+    text(b"\n");
+}
+
+// "n = 4, 1..14"
+pub fn interval(n: u32, low: u32, high: u32) {
+    text(b"n = ");
+    number(n);
+    text(b", ");
+    number(low);
+    text(b"..");
+    number(high);
+}
+
+pub fn refused(no: u32) {
+    text(b"refused ");
+    number(no);
+}
+
+pub fn fault(f: Fault) {
+    match f {
+        Fault::Width => refused(1),
+        Fault::Fit => refused(2),
+        Fault::Order => refused(3),
+    }
+}
