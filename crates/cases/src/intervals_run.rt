@@ -5,6 +5,7 @@ use intervals::Closed;
 use intervals::Counted;
 use intervals::Gave;
 use intervals::Listed;
+use intervals::Step;
 use intervals::Walk;
 
 fn close(n: u32, a: i32, b: i32, shown: &[u8]) {
@@ -81,43 +82,58 @@ pub fn counts() {
     count(4294967295, 4294967295, 0);
 }
 
-// The numbers of the list, and the one that stands behind them.
-fn numbers(out: &[u16], k: usize) {
+fn item(x: u16) {
+    say::text(b" ");
+    say::half(x);
+}
+
+// The first 14 numbers of a list.
+fn numbers(out: &[u16]) {
     let mut i: usize = 0;
     while i < out.len() {
-        if i < k {
-            say::text(b" ");
-            say::half(out[i]);
+        if i < 14 {
+            item(out[i]);
         }
         i += 1;
     }
 }
 
-fn list(n: u32, low: u32, high: u32, room: usize) {
-    let mut space = [7u16; 64];
-    let out: &mut [u16] = &mut space;
-    say::text(b"list ");
-    say::interval(n, low, high);
-    say::text(b", room ");
-    say::size(room);
-    say::text(b": ");
+// Lists into the first numbers of out.
+fn list_part(n: u32, low: u32, high: u32, room: usize, out: &mut [u16]) -> Listed {
     if out.len() < room {
-        return;
+        return Listed::Room(0);
     }
-    match intervals::list(n, low, high, &mut out[..room]) {
+    intervals::list(n, low, high, &mut out[..room])
+}
+
+fn listed(r: Listed) {
+    match r {
         Listed::Words(k) => {
             say::number(k);
-            say::text(b" words");
+            say::text(b" words:");
         }
         Listed::Room(k) => {
             say::refused(4);
             say::text(b" with ");
             say::number(k);
+            say::text(b":");
         }
-        Listed::Refused(f) => say::fault(f),
+        Listed::Refused(f) => {
+            say::fault(f);
+            say::text(b":");
+        }
     }
-    say::text(b":");
-    numbers(out, 14);
+}
+
+fn list(n: u32, low: u32, high: u32, room: usize) {
+    let mut space = [7u16; 64];
+    say::text(b"list ");
+    say::interval(n, low, high);
+    say::text(b", room ");
+    say::size(room);
+    say::text(b": ");
+    listed(list_part(n, low, high, room, &mut space));
+    numbers(&space);
     say::end();
 }
 
@@ -141,41 +157,54 @@ pub fn lists() {
     list(4, 14, 1, 12);
 }
 
-// All steps of a walk, to the first that gives no word, and one more.
+// What a step gives; true where it was a word.
+fn given(s: Step) -> bool {
+    let g = s.gave;
+    match g {
+        Gave::Next => {
+            item(s.word.value);
+            say::text(b",");
+            say::half(s.word.mask);
+            true
+        }
+        Gave::NoMore => {
+            say::text(b" no more");
+            false
+        }
+        Gave::Refused(f) => {
+            say::text(b" ");
+            say::fault(f);
+            false
+        }
+    }
+}
+
+// Takes steps until one gives no word, and hands back the state.
+fn steps(from: Walk) -> Walk {
+    let mut w = from;
+    let mut left: u32 = 32;
+    while 0 < left {
+        let s = w.step();
+        w = s.walk;
+        if given(s) {
+            left -= 1;
+        } else {
+            left = 0;
+        }
+    }
+    w
+}
+
 fn walk(n: u32, low: u32, high: u32, ended: bool) {
     say::text(b"walk ");
     say::interval(n, low, high);
     say::text(b":");
-    let mut w = Walk {
+    let w = steps(Walk {
         width: n,
         next: low,
         last: high,
         ended,
-    };
-    let mut left: u32 = 32;
-    while 0 < left {
-        left -= 1;
-        let s = w.step();
-        let g = s.gave;
-        match g {
-            Gave::Next => {
-                say::text(b" ");
-                say::half(s.word.value);
-                say::text(b",");
-                say::half(s.word.mask);
-            }
-            Gave::NoMore => {
-                say::text(b" no more");
-                left = 0;
-            }
-            Gave::Refused(f) => {
-                say::text(b" ");
-                say::fault(f);
-                left = 0;
-            }
-        }
-        w = s.walk;
-    }
+    });
     say::text(b"; next ");
     say::number(w.next);
     say::text(b", last ");

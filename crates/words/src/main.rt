@@ -2,6 +2,7 @@
 // the values that it matches.
 use blocks::Word;
 use intervals::Gave;
+use intervals::Step;
 use intervals::Walk;
 use libc::STDOUT_FILENO;
 
@@ -21,56 +22,32 @@ fn bit(x: u16, i: u32) -> bool {
     false
 }
 
-// The word's n bits, the highest first.
-fn bits(n: u32, w: Word) {
-    let mut i = n;
-    while 0 < i {
-        i -= 1;
-        if bit(w.mask, i) {
-            if bit(w.value, i) {
-                text(b"1");
-            } else {
-                text(b"0");
-            }
+// Bit i of a word: 0, 1 or * for a don't care.
+fn symbol(w: Word, i: u32) {
+    if bit(w.mask, i) {
+        if bit(w.value, i) {
+            text(b"1");
         } else {
-            text(b"*");
+            text(b"0");
         }
+    } else {
+        text(b"*");
     }
 }
 
-// One line for each word of low..high.
-fn show(n: u32, low: u32, high: u32) {
-    text(b"width ");
-    number(n);
-    text(b", ");
-    number(low);
-    text(b"..");
-    number(high);
-    text(b"\n");
-    let mut w = Walk {
-        width: n,
-        next: low,
-        last: high,
-        ended: false,
-    };
-    let mut left: u32 = 32;
-    while 0 < left {
-        left -= 1;
-        let s = w.step();
-        let g = s.gave;
-        if let Gave::Next = g {
-            line(n, s.word, s.walk);
-        } else {
-            left = 0;
-        }
-        w = s.walk;
+// The word's n bits, the highest first.
+fn symbols(n: u32, w: Word) {
+    let mut i = n;
+    while 0 < i {
+        i -= 1;
+        symbol(w, i);
     }
 }
 
 // A word with the first and the last value that it matches: the last is the walk's end, or stands before its next value.
 fn line(n: u32, word: Word, after: Walk) {
     text(b"  ");
-    bits(n, word);
+    symbols(n, word);
     text(b"  ");
     number(word.value as u32);
     text(b"..");
@@ -82,6 +59,48 @@ fn line(n: u32, word: Word, after: Walk) {
         }
     }
     text(b"\n");
+}
+
+// Shows a step of a walk of width n; true where it gave a word.
+fn shown(n: u32, s: Step) -> bool {
+    let g = s.gave;
+    if let Gave::Next = g {
+        line(n, s.word, s.walk);
+        return true;
+    }
+    false
+}
+
+// A line for each word of the walk.
+fn lines(from: Walk) {
+    let mut w = from;
+    let mut left: u32 = 32;
+    while 0 < left {
+        let s = w.step();
+        w = s.walk;
+        if shown(w.width, s) {
+            left -= 1;
+        } else {
+            left = 0;
+        }
+    }
+}
+
+// The words of low..high.
+fn show(n: u32, low: u32, high: u32) {
+    text(b"width ");
+    number(n);
+    text(b", ");
+    number(low);
+    text(b"..");
+    number(high);
+    text(b"\n");
+    lines(Walk {
+        width: n,
+        next: low,
+        last: high,
+        ended: false,
+    });
 }
 
 fn main() {
