@@ -8,3 +8,9 @@ pub struct Answer {
     pub c: u32,
     pub d: u32,
 }
+
+// The lowest index at which something was found.
+pub enum Lowest {
+    None,
+    At(usize),
+}

@@ -5,6 +5,7 @@ pub mod Lowest
 pub mod Lengths
 pub mod Counts
 pub mod Agreement
+pub mod Testing
 pub mod Matching
 pub mod Held
 pub mod Covers

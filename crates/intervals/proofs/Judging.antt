@@ -9,16 +9,17 @@ use lib.Bits.{bitAnd}
 use lib.Dec.{eqb}
 use lib.ListN.{getD, length}
 use borrow.Author.Tests.{lt-ltb, le-ltb, le-leb, lt-leb, eq-eqb, ne-eqb}
-use Rattle.answers.specs.Answers.{done, refused}
+use Rattle.answers.specs.Answers.{behindIll, done, refused}
 use Rattle.answers.specs.Refusals as refusal
 use Rattle.answers.specs.declared.Answer.{Answer}
+use Rattle.answers.specs.declared.Lowest.{Lowest}
+use Rattle.answers.specs.declared.Lowest.the-variants.{None, At}
 use Rattle.bits.specs.Masks.{Power}
+use Rattle.blocks.specs.Tests.{formed?, some?}
 use Rattle.blocks.specs.Words.{word}
 use Rattle.blocks.specs.declared.Word.{Word}
-use Rattle.intervals.specs.Checks.{wordAt, wordsFrom, formed?, some?, agree?, firstIll, verdict, behindIll, judged, checking}
+use Rattle.intervals.specs.Checks.{wordAt, wordsFrom, agree?, firstIll, verdict, judged, checking}
 use Rattle.intervals.specs.Ends.{behind, numberOf, tested}
-use Rattle.intervals.specs.declared.checks.Ill as lowest
-use Rattle.intervals.specs.declared.checks.Ill.the-variants.{None, At}
 use Rattle.intervals.specs.declared.ends.Fault.{Fault}
 use Rattle.intervals.specs.declared.ends.Tested.{Tested}
 use Rattle.intervals.specs.declared.ends.Tested.the-variants.{Good, Bad}
@@ -145,12 +146,12 @@ module _ (n low high : ℕ) (l : List ℕ) (k : ℕ) where
   unfolding judged
   judged-stated h = rw (lt-ltb (length l / 2) k h)
 
-  pub judged-ill : {r : lowest.Ill} {i : ℕ} → k ≤ length l / 2 → r ≡ firstIll n 0 (wordsFrom 0 k l) → r ≡ At i
+  pub judged-ill : {r : Lowest} {i : ℕ} → k ≤ length l / 2 → r ≡ firstIll n 0 (wordsFrom 0 k l) → r ≡ At i
       → refused refusal.ill i 0 ≡ judged n low high l k
   unfolding judged behindIll
   judged-ill h e f = rw (le-ltb (length l / 2) k h, ← e, f)
 
-  pub judged-on : {r : lowest.Ill} {a : Answer} → k ≤ length l / 2 → r ≡ firstIll n 0 (wordsFrom 0 k l) → r ≡ None
+  pub judged-on : {r : Lowest} {a : Answer} → k ≤ length l / 2 → r ≡ firstIll n 0 (wordsFrom 0 k l) → r ≡ None
       → a ≡ verdict (2 ^ n) 0 low high (wordsFrom 0 k l) → a ≡ judged n low high l k
   unfolding judged behindIll
   judged-on h e f v = rw (le-ltb (length l / 2) k h, ← e, f) v

@@ -12,52 +12,18 @@ use lib.ListN.{getD, length}
 use borrow.Author.Tests.{lt-ltb, ltb-true, le-leb, leb-true, eq-eqb, eqb-true}
 use Rattle.answers.specs.Answers.{done}
 use Rattle.answers.specs.declared.Answer.{Answer}
+use Rattle.answers.specs.declared.Lowest.the-variants.{None, At}
 use Rattle.bits.proofs.Orders.{le-or-lt}
 use Rattle.bits.specs.Choice.{if_then_else_}
-use Rattle.blocks.proofs.Agreement.{formed-and, and-formed, match-value, value-match}
+use Rattle.blocks.proofs.Testing.{AllFormed, formed-test, some-test, test-some}
+use Rattle.blocks.specs.Tests.{formed?, some?}
 use Rattle.blocks.specs.Words.{word, Formed, Some, Exactly}
 use Rattle.blocks.specs.declared.Word.{Word}
-use Rattle.intervals.specs.Checks.{formed?, matches?, some?, agree?, firstIll, verdict}
-use Rattle.intervals.specs.declared.checks.Ill.the-variants.{None, At}
-
--- every word of the list is well formed
-abbrev pub AllFormed : ℕ → List Word → Type 0
-AllFormed n ws = (w : Word) → List·Memᴰ w ws → Formed n w
+use Rattle.intervals.specs.Checks.{agree?, firstIll, verdict}
 
 -- x is in the interval and no word matches it, or the other way round
 abbrev pub Disagree : (low high : ℕ) (ws : List Word) (x : ℕ) → Type 0
 Disagree low high ws x = (((low ≤ x) × (x ≤ high)) × (Some ws x → ⊥)) ⊎ (((low ≤ x) × (x ≤ high) → ⊥) × Some ws x)
-
--- ---- what the tests tell
-
-module _ (n : ℕ) (w : Word) where
-  pub formed-test : formed? n w ≡ true → Formed n w
-  formed-test e =
-      let v = ltb (w .value) (2 ^ n) in
-      let m = ltb (w .mask) (2 ^ n) in
-      let a = and-eq-true-iff (v && m) (eqb (bitAnd (w .value) (w .mask)) (w .value)) .0 e in
-      let b = and-eq-true-iff v m .0 (a .0) in
-      and-formed n w (eqb-true (bitAnd (w .value) (w .mask)) (w .value) (a .1)) (ltb-true (w .value) (2 ^ n) (b .0)) (ltb-true (w .mask) (2 ^ n) (b .1))
-
-  pub test-formed : Formed n w → formed? n w ≡ true
-  test-formed f =
-      rw
-      (lt-ltb (w .value) (2 ^ n) (f .value-fits), lt-ltb (w .mask) (2 ^ n) (f .mask-fits), eq-eqb (bitAnd (w .value) (w .mask)) (w .value) (formed-and n w f))
-
-pub some-test : (n : ℕ) (ws : List Word) (x : ℕ) → AllFormed n ws → some? ws x ≡ true → Some ws x
-unfolding some?
-some-test n [] x f e = absurd (false≢true e)
-some-test n (w ∷ ws) x f e = go (matches? w x) refl e (some-test n ws x (λ v m. f v (List·Memᴰ·tail m)))
-  where
-    go : (b : Bool) → matches? w x ≡ b → (b || some? ws x) ≡ true → (some? ws x ≡ true → Some ws x) → Some (w ∷ ws) x
-    go true p q r = inl (value-match n w x (f w (List·Memᴰ·head refl)) (eqb-true (bitAnd x (w .mask)) (w .value) p))
-    go false p q r = inr (r q)
-
-pub test-some : (n : ℕ) (ws : List Word) (x : ℕ) → AllFormed n ws → Some ws x → some? ws x ≡ true
-unfolding some?
-test-some n [] x f s = absurd s
-test-some n (w ∷ ws) x f (inl m) = rw (eq-eqb (bitAnd x (w .mask)) (w .value) (match-value n w x (f w (List·Memᴰ·head refl)) m), some?)
-test-some n (w ∷ ws) x f (inr s) = rw (test-some n ws x (λ v m. f v (List·Memᴰ·tail m)) s, some?) (or-true (matches? w x))
 
 -- ---- agreement at x
 

@@ -1,21 +1,21 @@
 -- Checking a list of ternary words against an interval (document 01, "Checking a list").
-use mathlib.Core.Bool.{Bool, true, false, Bool·beq, _&&_, _||_}
+use mathlib.Core.Bool.{Bool, Bool·beq, _&&_}
 use mathlib.Core.List.{List, [], _∷_}
 use Prim.Native.Nat.{ℕ, zero, suc, _+_, _*_, _/_, _^_}
-use lib.Bits.{bitAnd}
-use lib.Dec.{eqb, leb, ltb}
+use lib.Dec.{leb, ltb}
 use lib.ListN.{getD, length}
-use Rattle.answers.specs.Answers.{done, refused}
+use Rattle.answers.specs.Answers.{behindIll, done, refused}
 use Rattle.answers.specs.Refusals as refusal
 use Rattle.answers.specs.declared.Answer.{Answer}
+use Rattle.answers.specs.declared.Lowest.{Lowest}
+use Rattle.answers.specs.declared.Lowest.the-variants.{None, At}
 use Rattle.bits.specs.Choice.{if_then_else_}
+use Rattle.blocks.specs.Tests.{formed?, some?}
 use Rattle.blocks.specs.Words.{word}
 use Rattle.blocks.specs.declared.Word.{Word}
 use Rattle.intervals.specs.Ends.{behind, numberOf, tested}
 use Rattle.intervals.specs.declared.checks.Checked.{Checked}
 use Rattle.intervals.specs.declared.checks.Checked.the-variants.{Yes, Differs, Refused, Stated, Ill}
-use Rattle.intervals.specs.declared.checks.Ill as lowest
-use Rattle.intervals.specs.declared.checks.Ill.the-variants.{None, At}
 
 -- document 01's number and values for each answer: 1 for yes, or 0 and the value on which they disagree
 abbrev pub checkedAs : Checked → Answer
@@ -34,25 +34,12 @@ unfoldable pub wordsFrom : ℕ → ℕ → List ℕ → List Word
 wordsFrom i zero l = []
 wordsFrom i (suc k) l = wordAt l i ∷ wordsFrom (i + 1) k l
 
--- the word is well formed: no bit of value or mask at n or above, and no value bit where the mask is 0
-abbrev pub formed? : ℕ → Word → Bool
-formed? n w = ltb (w .value) (2 ^ n) && ltb (w .mask) (2 ^ n) && eqb (bitAnd (w .value) (w .mask)) (w .value)
-
--- a well-formed word matches x
-abbrev pub matches? : Word → ℕ → Bool
-matches? w x = eqb (bitAnd x (w .mask)) (w .value)
-
--- some word of the list matches x
-unfoldable pub some? : List Word → ℕ → Bool
-some? [] x = false
-some? (w ∷ ws) x = matches? w x || some? ws x
-
 -- x is in the interval exactly when some word matches it
 abbrev pub agree? : ℕ → ℕ → List Word → ℕ → Bool
 agree? low high ws x = Bool·beq (leb low x && leb x high) (some? ws x)
 
 -- the lowest index, counted from i, of an ill-formed word
-unfoldable pub firstIll : ℕ → ℕ → List Word → lowest.Ill
+unfoldable pub firstIll : ℕ → ℕ → List Word → Lowest
 firstIll n i [] = None
 firstIll n i (w ∷ ws) = if formed? n w then firstIll n (i + 1) ws else At i
 
@@ -62,10 +49,6 @@ verdict zero x low high ws = done 1 0 0 0
 verdict (suc d) x low high ws =
     let on = verdict d (x + 1) low high ws in
     if agree? low high ws x then on else done 0 x 0 0
-
-unfoldable pub behindIll : lowest.Ill → Answer → Answer
-behindIll None a = a
-behindIll (At i) a = refused refusal.ill i 0
 
 -- the answer on a good interval
 unfoldable pub judged : ℕ → ℕ → ℕ → List ℕ → ℕ → Answer

@@ -3,10 +3,12 @@ ghost use mathlib.Core.Path.{_≡_};
 ghost use Prim.Native.Nat.{_*_, _^_, _≤_, _<_};
 ghost use lib.ListN.{length};
 ghost use Rattle.blocks.specs.Blocks.{Closed};
-ghost use Rattle.intervals.specs.Checks.{agree?, checkedAs, checking, firstIll, formed?, judged, some?, verdict, wordAt, wordsFrom};
+ghost use Rattle.blocks.specs.Tests.{formed?, some?};
+ghost use Rattle.intervals.specs.Checks.{agree?, checkedAs, checking, firstIll, judged, verdict, wordsFrom};
 use crate::ends::Fault;
 use crate::ends::Tested;
 use crate::ends::test_ends;
+use answers::Lowest;
 
 pub enum Checked {
     Yes,
@@ -17,12 +19,6 @@ pub enum Checked {
     Stated,
     // 10: the lowest index of an ill-formed word.
     Ill(usize),
-}
-
-// The lowest index of an ill-formed word.
-enum Ill {
-    None,
-    At(usize),
 }
 
 fn formed(n: u32, value: u16, mask: u16) -> bool
@@ -39,7 +35,8 @@ fn formed(n: u32, value: u16, mask: u16) -> bool
     value & mask == value
 }
 
-fn first_ill(n: u32, list: &[u16], k: usize) -> Ill
+// The lowest index of an ill-formed word.
+fn first_ill(n: u32, list: &[u16], k: usize) -> Lowest
     requires { ⌜ n ≤ 16 ⌝ }
     requires { ⌜ 2 * k ≤ length (now list) ⌝ }
     ensures { λ r. ⌜ r ≡ firstIll n 0 (wordsFrom 0 k (now (list .entry))) ⌝ }
@@ -49,10 +46,10 @@ fn first_ill(n: u32, list: &[u16], k: usize) -> Ill
         if formed(n, list[2 * i], list[2 * i + 1]) {
             i += 1;
         } else {
-            return Ill::At(i);
+            return Lowest::At(i);
         }
     }
-    Ill::None
+    Lowest::None
 }
 
 // One of the first k words matches x.
@@ -113,8 +110,8 @@ fn check_good(n: u32, low: u32, high: u32, list: &[u16], k: usize) -> Checked
         return Checked::Stated;
     }
     match first_ill(n, list, k) {
-        Ill::At(i) => Checked::Ill(i),
-        Ill::None => judge(n, low, high, list, k),
+        Lowest::At(i) => Checked::Ill(i),
+        Lowest::None => judge(n, low, high, list, k),
     }
 }
 

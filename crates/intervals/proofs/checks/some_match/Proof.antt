@@ -2,7 +2,8 @@
 use mathlib.Core.Path.{_≡_, sym, _∙_}
 use Prim.Native.Nat.{_-_, _≤_}
 use native.Mathlib.Omega.{arith}
-use Rattle.intervals.specs.Checks.{some?, wordsFrom}
+use Rattle.blocks.specs.Tests.{some?}
+use Rattle.intervals.specs.Checks.{wordsFrom}
 use Rattle.intervals.proofs.Judging.{some-start, some-turn, some-here, some-none}
 use Rattle.intervals.proofs.checks.some_match.Statement.{statement}
 use Rattle.intervals.proofs.checks.some_match.Tie as tie
