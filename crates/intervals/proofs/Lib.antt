@@ -5,4 +5,5 @@ pub mod Steps
 pub mod Walked
 pub mod Judging
 pub mod Verdicts
+pub mod Checking
 pub mod Settled

@@ -15,7 +15,7 @@ use Rattle.answers.specs.declared.Answer.{Answer}
 use Rattle.answers.specs.declared.Lowest.the-variants.{None, At}
 use Rattle.bits.proofs.Orders.{le-or-lt}
 use Rattle.bits.specs.Choice.{if_then_else_}
-use Rattle.blocks.proofs.Testing.{AllFormed, formed-test, some-test, test-some}
+use Rattle.blocks.proofs.Testing.{AllFormed, formed-test, some-test, test-formed, test-some}
 use Rattle.blocks.specs.Tests.{formed?, some?}
 use Rattle.blocks.specs.Words.{word, Formed, Some, Exactly}
 use Rattle.blocks.specs.declared.Word.{Word}
@@ -146,9 +146,9 @@ module _ (n low high : ℕ) (ws : List Word) (f : AllFormed n ws) where
       fine y h (inl d) = d .1 (e .covers y (d .0 .0) (d .0 .1))
       fine y h (inr d) = d .0 (e .within y h (d .1))
 
-pub verdict-no : (n low high x : ℕ) (ws : List Word) → AllFormed n ws → high < 2 ^ n → verdict (2 ^ n) 0 low high ws ≡ done 0 x 0 0
+pub verdict-no : (n low high x : ℕ) (ws : List Word) → AllFormed n ws → verdict (2 ^ n) 0 low high ws ≡ done 0 x 0 0
     → (x < 2 ^ n) × Disagree low high ws x × ((y : ℕ) → y < x → Disagree low high ws y → ⊥)
-verdict-no n low high x ws f h e =
+verdict-no n low high x ws f e =
     let r = no-first low high ws (2 ^ n) 0 x e in
     (omega (arith, r .below), disagrees n low high ws f x (r .here), λ y q. agree-fine n low high ws f y (r .before y (omega arith) q))
 
@@ -200,3 +200,8 @@ none-from n b (v ∷ ws) e w m = go (formed? n v) refl e (List·Memᴰ·cases-co
 
 pub none-ill : (n : ℕ) (ws : List Word) → firstIll n 0 ws ≡ None → (w : Word) → List·Memᴰ w ws → Formed n w
 none-ill n ws = none-from n 0 ws
+
+pub formed-none : (n b : ℕ) (ws : List Word) → AllFormed n ws → firstIll n b ws ≡ None
+unfolding firstIll
+formed-none n b [] f = refl
+formed-none n b (w ∷ ws) f = rw (test-formed n w (f w (List·Memᴰ·head refl)), firstIll) (formed-none n (b + 1) ws (λ v m. f v (List·Memᴰ·tail m)))
