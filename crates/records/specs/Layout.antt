@@ -1,0 +1,26 @@
+-- The sizes and limits of document 01's records, each named once.
+use Prim.Native.Nat.{ℕ, _/_, min}
+
+-- bytes of a header, of a value and of a mask
+abbrev pub keySize : ℕ
+keySize = 13
+
+-- bytes of a rule
+abbrev pub ruleSize : ℕ
+ruleSize = 21
+
+-- the most rules of a list
+abbrev pub ruleLimit : ℕ
+ruleLimit = 256
+
+-- bytes of a table record
+abbrev pub recordSize : ℕ
+recordSize = 28
+
+-- the most words of a table
+abbrev pub wordLimit : ℕ
+wordLimit = 2048
+
+-- how many records a table of so many bytes has room for
+abbrev pub roomOf : ℕ → ℕ
+roomOf bytes = min (bytes / recordSize) wordLimit

@@ -1,0 +1,4 @@
+pub mod Layout
+pub mod Keys
+pub mod Rules
+pub mod Entries
