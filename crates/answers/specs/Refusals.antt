@@ -17,6 +17,22 @@ order = 3
 abbrev pub room : ℕ
 room = 4
 
+-- the rule list's length is no multiple of a rule's
+abbrev pub odd : ℕ
+odd = 5
+
+-- there are too many rules
+abbrev pub many : ℕ
+many = 6
+
+-- a rule is bad; the lowest such rule and its first bad field come with it
+abbrev pub rule : ℕ
+rule = 7
+
+-- the words needed exceed the table's room; their number comes with it
+abbrev pub space : ℕ
+space = 8
+
 -- the stated word count exceeds the room
 abbrev pub stated : ℕ
 stated = 9
@@ -24,3 +40,7 @@ stated = 9
 -- a counted word is ill formed; the lowest such index comes with it
 abbrev pub ill : ℕ
 ill = 10
+
+-- the header has not 13 bytes
+abbrev pub header : ℕ
+header = 11
