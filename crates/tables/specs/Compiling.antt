@@ -1,0 +1,40 @@
+-- Compiling a rule list: what is answered, and what a lent table holds afterwards.
+use mathlib.Core.List.{List}
+use mathlib.Core.Path.{_≡_}
+use Prim.Native.Nat.{ℕ}
+use lib.Dec.{eqb, ltb}
+use lib.ListN.{length}
+use Rattle.answers.specs.Answers.{done, refused}
+use Rattle.answers.specs.Refusals as refusal
+use Rattle.answers.specs.declared.Answer.{Answer}
+use Rattle.bits.specs.Choice.{if_then_else_}
+use Rattle.fields.specs.Writes.{writeAt}
+use Rattle.records.specs.Entries.{tableBytes}
+use Rattle.records.specs.Layout.{roomOf}
+use Rattle.records.specs.Rules.{allRules}
+use Rattle.rules.specs.Faults.{behindRules, listFaultAs, testedRules}
+use Rattle.tables.specs.Words.{entriesOf, needed}
+use Rattle.tables.specs.declared.compiling.Compiled.{Compiled}
+use Rattle.tables.specs.declared.compiling.Compiled.the-variants.{Words, Refused, Space}
+
+-- document 01's number and values for each answer
+abbrev pub compiledAs : Compiled → Answer
+compiledAs (Words k) = done k 0 0 0
+compiledAs (Refused f) = listFaultAs f
+compiledAs (Space k) = refused refusal.space k 0
+
+-- the answer where the table lent has so many bytes
+unfoldable pub compiling : List ℕ → ℕ → Answer
+compiling l bytes =
+    let k = needed (allRules l) in
+    behindRules (testedRules l) (if ltb (roomOf bytes) k then refused refusal.space k 0 else done k 0 0 0)
+
+-- what the table holds afterwards: the records and then what stood behind them, or what it held where the call is refused
+unfoldable pub tableLeft : List ℕ → List ℕ → List ℕ
+tableLeft l before =
+    if eqb (compiling l (length before) .no) 0 then writeAt before 0 (tableBytes (entriesOf 0 (allRules l))) else before
+
+-- the promise of `compile`
+pub record Compiling (l before : List ℕ) (r : Compiled) (after : List ℕ) : Type 0 where
+  pub says : compiledAs r ≡ compiling l (length before)
+  pub leaves : after ≡ tableLeft l before
