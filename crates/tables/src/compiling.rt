@@ -2,7 +2,6 @@
 ghost use mathlib.Core.Path.{_≡_};
 ghost use Prim.Native.Nat.{_*_, _≤_};
 ghost use lib.ListN.{length};
-ghost use Rattle.fields.specs.Bytes.{Half};
 ghost use Rattle.fields.specs.Writes.{writeAt};
 ghost use Rattle.records.specs.Entries.{tableBytes};
 ghost use Rattle.records.specs.Layout.{recordSize, roomOf};
@@ -26,19 +25,13 @@ pub enum Compiled {
     Space(usize),
 }
 
-fn wide(x: u16) -> u32
-    ensures { λ r. ⌜ Half x r ⌝ }
-{
-    x as u32
-}
-
 // How many words a rule has.
 fn words(r: Rule) -> usize
     requires { ⌜ Good r ⌝ }
     ensures { λ k. ⌜ WordCount r k ⌝ }
 {
-    let s = blocks::count(16, wide(r.slow), wide(r.shigh));
-    let d = blocks::count(16, wide(r.dlow), wide(r.dhigh));
+    let s = blocks::count(16, fields::half(r.slow), fields::half(r.shigh));
+    let d = blocks::count(16, fields::half(r.dlow), fields::half(r.dhigh));
     (s as usize) * (d as usize)
 }
 

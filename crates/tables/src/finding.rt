@@ -5,6 +5,7 @@ ghost use Prim.Native.Nat.{_*_, _≤_};
 ghost use lib.Bits.{bitAnd};
 ghost use lib.Dec.{eqb};
 ghost use lib.ListN.{length};
+ghost use Rattle.records.specs.Entries.{valueOf};
 ghost use Rattle.records.specs.Layout.{keySize, recordSize};
 ghost use Rattle.tables.specs.Looking.{firstIll, firstRecord, foundAs, looking, lookingFormed, recordFormed?, recordMatches?};
 use answers::Lowest;
@@ -57,7 +58,7 @@ fn matches_record(t: &[u8], h: &[u8]) -> bool
 // No value bit of the record at the start of t stands where its mask is 0.
 fn formed_bytes(t: &[u8]) -> bool
     requires { ⌜ recordSize ≤ length (now t) ⌝ }
-    ensures { λ r. ⌜ r ≡ recordMatches? (now (t .entry)) (now (t .entry)) ⌝ }
+    ensures { λ r. ⌜ r ≡ recordMatches? (now (t .entry)) (valueOf (now (t .entry))) ⌝ }
 {
     let mut d: u8 = 0;
     let mut j: usize = 0;

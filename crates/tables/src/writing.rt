@@ -5,7 +5,6 @@ ghost use mathlib.Core.Path.{_≡_};
 ghost use Prim.Native.Nat.{_*_, _+_, _-_, _≤_};
 ghost use lib.ListN.{length};
 ghost use Rattle.bits.specs.Masks.{maskOf};
-ghost use Rattle.fields.specs.Bytes.{Half};
 ghost use Rattle.records.specs.Layout.{recordSize};
 ghost use Rattle.tables.specs.Words.{Good, destWords, partRows, portRow, portRows, protoWord, ruleEntries, sourceWords};
 ghost use Rattle.tables.specs.Written.{Wrote};
@@ -13,20 +12,14 @@ use records::Key;
 use records::RECORD_SIZE;
 use records::Rule;
 
-fn wide(x: u16) -> u32
-    ensures { λ r. ⌜ Half x r ⌝ }
-{
-    x as u32
-}
-
 // The records of one source word, which stands in value and mask, with every destination word.
 fn put_row(t: &mut [u8], at: usize, value: Key, mask: Key, r: Rule, number: u8) -> usize
     requires { ⌜ Good r ⌝ }
     requires { ⌜ at + recordSize * length (portRow value mask r number (destWords r)) ≤ length (now t) ⌝ }
     ensures { λ x. ⌜ Wrote (now (t .entry)) (now (t .exit)) at (portRow value mask r number (destWords r)) x ⌝ }
 {
-    let end = wide(r.dhigh) + 1;
-    let mut next = wide(r.dlow);
+    let end = fields::half(r.dhigh) + 1;
+    let mut next = fields::half(r.dlow);
     let mut free = at;
     while next < end {
         let k = blocks::free_bits(16, next, end);
@@ -57,8 +50,8 @@ fn put_rows(t: &mut [u8], at: usize, value: Key, mask: Key, r: Rule, number: u8)
     requires { ⌜ at + recordSize * length (portRows value mask r number (sourceWords r)) ≤ length (now t) ⌝ }
     ensures { λ x. ⌜ Wrote (now (t .entry)) (now (t .exit)) at (portRows value mask r number (sourceWords r)) x ⌝ }
 {
-    let end = wide(r.shigh) + 1;
-    let mut next = wide(r.slow);
+    let end = fields::half(r.shigh) + 1;
+    let mut next = fields::half(r.slow);
     let mut free = at;
     while next < end {
         let k = blocks::free_bits(16, next, end);
