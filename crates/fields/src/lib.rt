@@ -13,7 +13,8 @@ fn wide(x: u8) -> u32
     x as u32
 }
 
-fn wide2(x: u16) -> u32
+// A number of two bytes as a wider one, with its bound.
+pub fn half(x: u16) -> u32
     ensures { λ r. ⌜ Half x r ⌝ }
 {
     x as u32
@@ -30,7 +31,7 @@ pub fn get4(s: &[u8], at: usize) -> u32
     requires { ⌜ at + 4 ≤ length (now s) ⌝ }
     ensures { λ r. ⌜ r ≡ at4 (now (s .entry)) at ⌝ }
 {
-    wide2(get2(s, at)) * 65536 + wide2(get2(s, at + 2))
+    half(get2(s, at)) * 65536 + half(get2(s, at + 2))
 }
 
 pub fn put1(t: &mut [u8], at: usize, x: u8)

@@ -21,7 +21,9 @@ pub const RECORD_SIZE: usize = 28;
 pub const WORD_LIMIT: usize = 2048;
 // Where a record's mask, rule number and action stand.
 pub const MASK_AT: usize = 13;
+
 pub const NUMBER_AT: usize = 26;
+
 pub const ACTION_AT: usize = 27;
 
 // What a header, a value or a mask holds.
