@@ -8,12 +8,12 @@ use Rattle.answers.specs.Answers.{done, refused}
 use Rattle.answers.specs.Refusals as refusal
 use Rattle.answers.specs.declared.Answer.{Answer}
 use Rattle.bits.specs.Choice.{if_then_else_}
+use Rattle.entries.specs.Words.{entriesOf, needed}
 use Rattle.fields.specs.Writes.{writeAt}
 use Rattle.records.specs.Entries.{tableBytes}
 use Rattle.records.specs.Layout.{roomOf}
 use Rattle.records.specs.Rules.{allRules}
 use Rattle.rules.specs.Faults.{behindRules, listFaultAs, testedRules}
-use Rattle.tables.specs.Words.{entriesOf, needed}
 use Rattle.tables.specs.declared.compiling.Compiled.{Compiled}
 use Rattle.tables.specs.declared.compiling.Compiled.the-variants.{Words, Refused, Space}
 

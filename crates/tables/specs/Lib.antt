@@ -1,4 +1,2 @@
-pub mod Words
-pub mod Written
 pub mod Compiling
 pub mod Looking

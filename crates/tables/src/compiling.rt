@@ -2,6 +2,7 @@
 ghost use mathlib.Core.Path.{_≡_};
 ghost use Prim.Native.Nat.{_*_, _≤_};
 ghost use lib.ListN.{length};
+ghost use Rattle.entries.specs.Words.{entriesOf, needed};
 ghost use Rattle.fields.specs.Writes.{writeAt};
 ghost use Rattle.records.specs.Entries.{tableBytes};
 ghost use Rattle.records.specs.Layout.{recordSize, roomOf};
@@ -9,11 +10,8 @@ ghost use Rattle.records.specs.Rules.{allRules};
 ghost use Rattle.rules.specs.Faults.{testedRules};
 ghost use Rattle.rules.specs.declared.faults.ListTest.the-variants as test;
 ghost use Rattle.tables.specs.Compiling.{Compiling};
-ghost use Rattle.tables.specs.Words.{Good, WordCount, entriesOf, needed};
-use crate::writing::put_rule;
 use records::RECORD_SIZE;
 use records::RULE_SIZE;
-use records::Rule;
 use records::WORD_LIMIT;
 use rules::ListFault;
 use rules::ListTest;
@@ -23,16 +21,6 @@ pub enum Compiled {
     Refused(ListFault),
     // 8: so many words are needed, more than the table has room for.
     Space(usize),
-}
-
-// How many words a rule has.
-fn words(r: Rule) -> usize
-    requires { ⌜ Good r ⌝ }
-    ensures { λ k. ⌜ WordCount r k ⌝ }
-{
-    let s = blocks::count(16, fields::half(r.slow), fields::half(r.shigh));
-    let d = blocks::count(16, fields::half(r.dlow), fields::half(r.dhigh));
-    (s as usize) * (d as usize)
 }
 
 // How many words a well-formed list needs.
@@ -45,7 +33,7 @@ fn total(rules: &[u8]) -> usize
     let mut from: usize = 0;
     let mut k: usize = 0;
     while i < n {
-        k += words(records::read_rule(&rules[from..]));
+        k += entries::words(records::read_rule(&rules[from..]));
         from += RULE_SIZE;
         i += 1;
     }
@@ -64,7 +52,7 @@ fn fill(rules: &[u8], table: &mut [u8])
     let mut at: usize = 0;
     while i < n {
         let r = records::read_rule(&rules[from..]);
-        at += put_rule(&mut table[at..], r, i as u8);
+        at += entries::put_rule(&mut table[at..], r, i as u8);
         from += RULE_SIZE;
         i += 1;
     }

@@ -7,7 +7,6 @@
 // Everything is tested before anything is written, so a refused call leaves the table as it was.
 mod compiling;
 mod finding;
-mod writing;
 
 pub use compiling::Compiled;
 pub use compiling::compile;

@@ -1,13 +1,13 @@
-// One rule's records: every protocol word with every source port word with every destination port word, in that nesting.
-// Each function has one loop and hands back where the next record goes.
+// One rule's records: every protocol word with every source port word with every destination port word, in that nesting;
+// how many they are, and writing them. Each function has one loop and hands back where the next record goes.
 ghost use mathlib.Core.List.{_++_};
 ghost use mathlib.Core.Path.{_≡_};
 ghost use Prim.Native.Nat.{_*_, _+_, _-_, _≤_};
 ghost use lib.ListN.{length};
 ghost use Rattle.bits.specs.Masks.{maskOf};
 ghost use Rattle.records.specs.Layout.{recordSize};
-ghost use Rattle.tables.specs.Words.{Good, destWords, partRows, portRow, portRows, protoWord, ruleEntries, sourceWords};
-ghost use Rattle.tables.specs.Written.{Wrote};
+ghost use Rattle.entries.specs.Words.{Good, WordCount, destWords, portRow, portRows, protoWord, ruleEntries, sourceWords};
+ghost use Rattle.entries.specs.Written.{Wrote};
 use records::Key;
 use records::RECORD_SIZE;
 use records::Rule;
@@ -123,4 +123,14 @@ pub fn put_rule(t: &mut [u8], r: Rule, number: u8) -> usize
         dport: 0,
     };
     put_rows(t, 0, value, mask, r, number)
+}
+
+// How many words a rule has.
+pub fn words(r: Rule) -> usize
+    requires { ⌜ Good r ⌝ }
+    ensures { λ k. ⌜ WordCount r k ⌝ }
+{
+    let s = blocks::count(16, fields::half(r.slow), fields::half(r.shigh));
+    let d = blocks::count(16, fields::half(r.dlow), fields::half(r.dhigh));
+    (s as usize) * (d as usize)
 }
