@@ -126,11 +126,11 @@ pub fn put_rule(t: &mut [u8], r: Rule, number: u8) -> usize
 }
 
 // How many words a rule has.
-pub fn words(r: Rule) -> usize
+pub fn words(r: Rule) -> u32
     requires { ⌜ Good r ⌝ }
     ensures { λ k. ⌜ WordCount r k ⌝ }
 {
     let s = blocks::count(16, fields::half(r.slow), fields::half(r.shigh));
     let d = blocks::count(16, fields::half(r.dlow), fields::half(r.dhigh));
-    (s as usize) * (d as usize)
+    s * d
 }

@@ -12,7 +12,7 @@ pub enum ListFault {
     // 6: there are too many rules.
     Many,
     // 7: the lowest bad rule, and its first bad field.
-    Bad(usize, u8),
+    Bad(u32, u8),
 }
 
 pub enum ListTest {
@@ -87,7 +87,7 @@ pub fn test_rules(rules: &[u8]) -> ListTest
     while i < n {
         let f = bad_field(records::read_rule(&rules[at..]));
         if f != 0 {
-            return ListTest::Refused(ListFault::Bad(i, f));
+            return ListTest::Refused(ListFault::Bad(i as u32, f));
         }
         at += RULE_SIZE;
         i += 1;

@@ -16,7 +16,7 @@ use records::Rule;
 
 pub enum Found {
     // The first matching rule's number from 0, and its action.
-    Rule(usize, u8),
+    Rule(u32, u8),
     Nothing,
     Refused(ListFault),
     // 11: the header has not 13 bytes.
@@ -80,7 +80,7 @@ fn first_rule(rules: &[u8], h: Key) -> Found
     while i < n {
         let r = records::read_rule(&rules[at..]);
         if rule_matches(r, h) {
-            return Found::Rule(i, r.action);
+            return Found::Rule(i as u32, r.action);
         }
         at += RULE_SIZE;
         i += 1;

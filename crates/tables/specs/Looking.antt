@@ -1,7 +1,7 @@
 -- Finding a header in a table: what is answered on any bytes.
 use mathlib.Core.Bool.{Bool, true, _&&_, not}
 use mathlib.Core.List.{List, [], _∷_}
-use Prim.Native.Nat.{ℕ, zero, suc, _+_}
+use Prim.Native.Nat.{ℕ, zero, suc, _+_, _*_, _≤_}
 use lib.Bits.{bitAnd}
 use lib.Dec.{eqb, leb, ltb}
 use lib.ListN.{drop, length}
@@ -12,7 +12,7 @@ use Rattle.answers.specs.declared.Lowest.{Lowest}
 use Rattle.answers.specs.declared.Lowest.the-variants.{None, At}
 use Rattle.bits.specs.Choice.{if_then_else_}
 use Rattle.records.specs.Entries.{actionOf, maskOfRecord, numberOf, valueOf}
-use Rattle.records.specs.Layout.{keySize, recordSize, roomOf}
+use Rattle.records.specs.Layout.{keySize, recordSize, roomOf, wordLimit}
 use Rattle.tables.specs.declared.finding.Found.{Found}
 use Rattle.tables.specs.declared.finding.Found.the-variants as found
 
@@ -61,3 +61,8 @@ unfoldable pub looking : List ℕ → ℕ → List ℕ → Answer
 looking t k h =
     if ltb (roomOf (length t)) k then refused refusal.stated 0 0
     else behindIll (firstIll k 0 t) (lookingFormed t k h)
+
+-- k records stand in the table, and they are no more than a table may have
+pub record Fit (k : ℕ) (t : List ℕ) : Type 0 where
+  pub stand : recordSize * k ≤ length t
+  pub few : k ≤ wordLimit

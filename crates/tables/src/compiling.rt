@@ -17,21 +17,21 @@ use rules::ListFault;
 use rules::ListTest;
 
 pub enum Compiled {
-    Words(usize),
+    Words(u32),
     Refused(ListFault),
     // 8: so many words are needed, more than the table has room for.
-    Space(usize),
+    Space(u32),
 }
 
 // How many words a well-formed list needs.
-fn total(rules: &[u8]) -> usize
+fn total(rules: &[u8]) -> u32
     requires { ⌜ testedRules (now rules) ≡ test.Good ⌝ }
     ensures { λ k. ⌜ k ≡ needed (allRules (now (rules .entry))) ⌝ }
 {
     let n = rules.len() / RULE_SIZE;
     let mut i: usize = 0;
     let mut from: usize = 0;
-    let mut k: usize = 0;
+    let mut k: u32 = 0;
     while i < n {
         k += entries::words(records::read_rule(&rules[from..]));
         from += RULE_SIZE;
@@ -75,7 +75,7 @@ fn compile_good(rules: &[u8], table: &mut [u8]) -> Compiled
     ensures { λ r. ⌜ Compiling (now (rules .entry)) (now (table .entry)) r (now (table .exit)) ⌝ }
 {
     let k = total(rules);
-    if room(table.len()) < k {
+    if room(table.len()) < k as usize {
         return Compiled::Space(k);
     }
     fill(rules, table);

@@ -7,7 +7,7 @@ ghost use lib.Dec.{eqb};
 ghost use lib.ListN.{length};
 ghost use Rattle.records.specs.Entries.{valueOf};
 ghost use Rattle.records.specs.Layout.{keySize, recordSize};
-ghost use Rattle.tables.specs.Looking.{firstIll, firstRecord, foundAs, looking, lookingFormed, recordFormed?, recordMatches?};
+ghost use Rattle.tables.specs.Looking.{Fit, firstIll, firstRecord, foundAs, looking, lookingFormed, recordFormed?, recordMatches?};
 use crate::compiling::room;
 use answers::Lowest;
 use records::ACTION_AT;
@@ -18,16 +18,12 @@ use records::RECORD_SIZE;
 
 pub enum Found {
     // The first matching record's index, its rule number and its action.
-    Record {
-        index: usize,
-        rule: usize,
-        action: u8,
-    },
+    Record { index: u32, rule: u32, action: u8 },
     Nothing,
     // 9: the stated count of words exceeds the table's room.
     Stated,
     // 10: the lowest index of an ill-formed record.
-    Ill(usize),
+    Ill(u32),
     // 11: the header has not 13 bytes.
     Header,
 }
@@ -82,7 +78,7 @@ fn formed_record(t: &[u8]) -> bool
 
 // The lowest index of an ill-formed record among the first k.
 fn first_ill(table: &[u8], k: usize) -> Lowest
-    requires { ⌜ recordSize * k ≤ length (now table) ⌝ }
+    requires { ⌜ Fit k (now table) ⌝ }
     ensures { λ r. ⌜ r ≡ firstIll k 0 (now (table .entry)) ⌝ }
 {
     let mut i: usize = 0;
@@ -98,15 +94,15 @@ fn first_ill(table: &[u8], k: usize) -> Lowest
     Lowest::None
 }
 
-fn wide(x: u8) -> usize
+fn wide(x: u8) -> u32
     ensures { λ r. ⌜ r ≡ x ⌝ }
 {
-    x as usize
+    x as u32
 }
 
 // The first of the k records that matches.
 fn first_record(table: &[u8], k: usize, h: &[u8]) -> Found
-    requires { ⌜ recordSize * k ≤ length (now table) ⌝ }
+    requires { ⌜ Fit k (now table) ⌝ }
     requires { ⌜ length (now h) ≡ keySize ⌝ }
     ensures { λ r. ⌜ foundAs r ≡ firstRecord k 0 (now (table .entry)) (now (h .entry)) ⌝ }
 {
@@ -115,7 +111,7 @@ fn first_record(table: &[u8], k: usize, h: &[u8]) -> Found
     while i < k {
         if matches_record(&table[at..], h) {
             return Found::Record {
-                index: i,
+                index: i as u32,
                 rule: wide(table[at + NUMBER_AT]),
                 action: table[at + ACTION_AT],
             };
@@ -128,7 +124,7 @@ fn first_record(table: &[u8], k: usize, h: &[u8]) -> Found
 
 // The answer where all counted records are well formed.
 fn find_formed(table: &[u8], k: usize, header: &[u8]) -> Found
-    requires { ⌜ recordSize * k ≤ length (now table) ⌝ }
+    requires { ⌜ Fit k (now table) ⌝ }
     ensures { λ r. ⌜ foundAs r ≡ lookingFormed (now (table .entry)) k (now (header .entry)) ⌝ }
 {
     if header.len() != KEY_SIZE {
@@ -144,7 +140,7 @@ pub fn find_word(table: &[u8], k: usize, header: &[u8]) -> Found
         return Found::Stated;
     }
     match first_ill(table, k) {
-        Lowest::At(i) => Found::Ill(i),
+        Lowest::At(i) => Found::Ill(i as u32),
         Lowest::None => find_formed(table, k, header),
     }
 }

@@ -23,12 +23,6 @@ half-requires-4 c κs = search needs
 count-requires-2 : tie.Need-count-requires-2
 count-requires-2 c κs = search needs
 
-cast-result : tie.Need-cast-result
-cast-result c = search needs
-
-cast-result-2 : tie.Need-cast-result-2
-cast-result-2 c = search needs
-
 returns : tie.Need-returns
 returns c =
     let source = c .before .before .before in
@@ -48,7 +42,5 @@ words-spec =
     half-requires-3
     half-requires-4
     count-requires-2
-    cast-result
-    cast-result-2
     mul-result
     returns)

@@ -1,0 +1,4 @@
+pub mod Gathering
+pub mod Scanning
+pub mod Indices
+pub mod Settled
