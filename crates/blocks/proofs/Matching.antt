@@ -12,7 +12,7 @@ use Rattle.blocks.specs.declared.Word.{Word}
 use Rattle.blocks.proofs.Agreement.{match-and, and-match, formed-and, and-formed}
 
 -- the mask of k free bits keeps what stands above them
-mask-keeps : (n k x : ℕ) → k ≤ n → x < 2 ^ n → bitAnd x (maskOf n k) ≡ x / 2 ^ k * 2 ^ k
+pub mask-keeps : (n k x : ℕ) → k ≤ n → x < 2 ^ n → bitAnd x (maskOf n k) ≡ x / 2 ^ k * 2 ^ k
 mask-keeps n k x h f =
     let e : n ≡ (n - k) + k = omega arith in
     ap (λ (y : ℕ). bitAnd x (2 ^ y - 2 ^ k)) e ∙ and-high x (n - k) k ∙ ap (λ (y : ℕ). y * 2 ^ k) (shr-mod (n - k) k (rw e at f))

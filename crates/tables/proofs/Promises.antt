@@ -1,0 +1,54 @@
+-- The promise of compiling at each return, and that a well-formed list is turned down exactly for lack of room.
+-- Assumes nothing.
+use mathlib.Core.Bool.{true, false}
+use mathlib.Core.List.{List}
+use mathlib.Core.Path.{_≡_, refl, sym, ap, _∙_}
+use Prim.Native.Nat.{ℕ, _≤_, _<_}
+use native.Mathlib.Omega.{arith}
+use lib.Dec.{eqb}
+use lib.ListN.{length}
+use borrow.Author.Tests.{le-ltb, lt-ltb}
+use Rattle.answers.specs.Answers.{done, refused}
+use Rattle.answers.specs.Refusals as refusal
+use Rattle.answers.specs.declared.Answer.{Answer}
+use Rattle.bits.specs.Choice.{if_then_else_}
+use Rattle.entries.specs.Words.{entriesOf, needed}
+use Rattle.fields.specs.Writes.{writeAt}
+use Rattle.records.specs.Entries.{tableBytes}
+use Rattle.records.specs.Layout.{roomOf}
+use Rattle.records.specs.Rules.{allRules}
+use Rattle.rules.specs.Faults.{behindRules, listFaultAs, testedRules}
+use Rattle.rules.specs.declared.faults.ListFault.{ListFault}
+use Rattle.rules.specs.declared.faults.ListFault.the-variants.{Odd, Many, Bad}
+use Rattle.rules.specs.declared.faults.ListTest.{ListTest}
+use Rattle.rules.specs.declared.faults.ListTest.the-variants as test
+use Rattle.tables.specs.Compiling.{Compiling, compiledAs, compiling, tableLeft}
+use Rattle.tables.specs.declared.compiling.Compiled.{Compiled}
+use Rattle.tables.specs.declared.compiling.Compiled.the-variants.{Words, Refused, Space}
+
+refusal-some : (f : ListFault) → eqb (listFaultAs f .no) 0 ≡ false
+refusal-some Odd = refl
+refusal-some Many = refl
+refusal-some (Bad i f) = refl
+
+module _ (l before : List ℕ) where
+  -- what a table holds after an answer
+  after : Answer → List ℕ
+  after a = if eqb (a .no) 0 then writeAt before 0 (tableBytes (entriesOf 0 (allRules l))) else before
+
+  promise : (r : Compiled) (t : List ℕ) → compiledAs r ≡ compiling l (length before) → t ≡ after (compiledAs r) → Compiling l before r t
+  unfolding tableLeft after
+  promise r t e h = record { says = e; leaves = h ∙ ap after e }
+
+  pub compiling-refused : {r : ListTest} (f : ListFault) → r ≡ testedRules l → r ≡ test.Refused f → Compiling l before (Refused f) before
+  unfolding compiling behindRules after
+  compiling-refused f e g = promise (Refused f) before (simp (← e, g)) (simp (refusal-some f))
+
+  module _ (good : testedRules l ≡ test.Good) (k : ℕ) (ek : k ≡ needed (allRules l)) where
+    pub compiling-space : roomOf (length before) < k → Compiling l before (Space k) before
+    unfolding compiling behindRules after
+    compiling-space h = promise (Space k) before (simp (good, ← ek, lt-ltb (roomOf (length before)) k h)) refl
+
+    pub compiling-words : k ≤ roomOf (length before) → (t : List ℕ) → t ≡ writeAt before 0 (tableBytes (entriesOf 0 (allRules l))) → Compiling l before (Words k) t
+    unfolding compiling behindRules after
+    compiling-words h t et = promise (Words k) t (simp (good, ← ek, le-ltb (roomOf (length before)) k h)) et
