@@ -1,0 +1,146 @@
+-- Demand 2, said of what the calls return: looking up a compiled table with the returned count finds, for every header, what
+-- reading the rule list finds; and a well-formed list is turned down exactly where its words outnumber the room.
+-- Assumes nothing.
+use mathlib.Core.Bool.{Bool, true, false, not}
+use mathlib.Core.List.{List, _++_}
+use mathlib.Core.Logic.{_⊎_, inl, inr}
+use mathlib.Core.Path.{_≡_, refl, sym, ap, ap₂, _∙_}
+use Prim.Native.Nat.{ℕ, zero, suc, _+_, _*_, _≤_, _<_}
+use native.Mathlib.Omega.{arith}
+use lib.Dec.{eqb, ltb}
+use lib.ListN.{drop, length}
+use lib.Seq.{getD-drop}
+use borrow.Author.Tests.{le-ltb, lt-ltb, ltb-false}
+use Rattle.answers.specs.Answers.{done, refused}
+use Rattle.answers.specs.Refusals as refusal
+use Rattle.answers.specs.declared.Answer.{Answer}
+use Rattle.answers.specs.declared.Lowest.the-variants.{None}
+use Rattle.bits.proofs.Orders.{le-or-lt}
+use Rattle.bits.specs.Choice.{if_then_else_}
+use Rattle.entries.proofs.Spans.{length-entries}
+use Rattle.entries.specs.Words.{entriesOf, needed}
+use Rattle.fields.proofs.Writing.{length-write}
+use Rattle.fields.specs.Bytes.{Bytes}
+use Rattle.fields.specs.Writes.{writeAt}
+use Rattle.records.proofs.Reading.{length-table, rule-fits}
+use Rattle.records.specs.Entries.{Entry, tableBytes}
+use Rattle.records.specs.Keys.{keyAt}
+use Rattle.records.specs.Layout.{keySize, recordSize, roomOf, ruleSize}
+use Rattle.records.specs.Rules.{allRules, ruleAt, rulesOf}
+use Rattle.records.specs.declared.Rule.{Rule}
+use Rattle.rules.proofs.Goods.{fine, good-list, good-next}
+use Rattle.rules.specs.Faults.{behindRules, firstBad, listFaultAs, testedRules}
+use Rattle.rules.specs.Finding as rule
+use Rattle.rules.specs.Meaning.{firstRule}
+use Rattle.rules.specs.declared.faults.ListFault.{ListFault}
+use Rattle.rules.specs.declared.faults.ListFault.the-variants.{Odd, Many, Bad}
+use Rattle.rules.specs.declared.faults.ListTest.{ListTest}
+use Rattle.rules.specs.declared.faults.ListTest.the-variants.{Good, Refused}
+use Rattle.rules.specs.declared.finding.Found as rule-answer
+use Rattle.tables.specs.Compiling.{Compiling, compiledAs, compiling, tableLeft}
+use Rattle.tables.specs.Looking.{firstIll, firstRecord, foundAs, looking, lookingFormed}
+use Rattle.tables.specs.declared.compiling.Compiled.{Compiled}
+use Rattle.tables.specs.declared.finding.Found.{Found}
+use Rattle.tables.proofs.Demand2.{forget, table-finds}
+use Rattle.tables.proofs.FormedTable.{compiled-formed}
+use Rattle.tables.proofs.RuleWords.{AllSound}
+use Rattle.tables.proofs.Scanning.{formed-header, formed-found, looking-found}
+
+-- ---- a well-formed list
+
+all-sound : (n i : ℕ) (l : List ℕ) → Bytes l → firstBad i (rulesOf n l) ≡ Good → AllSound (rulesOf n l)
+unfolding rulesOf
+all-sound zero i l b e = tt
+all-sound (suc n) i l b e =
+    let g = good-next i (ruleAt l) (rulesOf n (drop ruleSize l)) e in
+    let f = fine (ruleAt l) (g .0) in
+    (record { fits = rule-fits l b; src = f .src; dst = f .dst; action = f .action },
+    all-sound n (i + 1) (drop ruleSize l) (λ (j : ℕ). rw getD-drop (b (ruleSize + j))) (g .1))
+
+-- ---- what compiling answers
+
+fault-some : (f : ListFault) → listFaultAs f .no ≡ 0 → ⊥
+fault-some Odd e = omega arith
+fault-some Many e = omega arith
+fault-some (Bad i f) e = omega arith
+
+module _ (l : List ℕ) (bytes : ℕ) (good : testedRules l ≡ Good) where
+  -- turned down, with the number of words needed, where they outnumber the room
+  pub turned-down : roomOf bytes < needed (allRules l) → compiling l bytes ≡ refused refusal.space (needed (allRules l)) 0
+  unfolding compiling behindRules
+  turned-down h = simp (good, lt-ltb (roomOf bytes) (needed (allRules l)) h)
+
+  -- and taken where they do not
+  pub taken : needed (allRules l) ≤ roomOf bytes → compiling l bytes ≡ done (needed (allRules l)) 0 0 0
+  unfolding compiling behindRules
+  taken h = simp (good, le-ltb (roomOf bytes) (needed (allRules l)) h)
+
+-- what a list that was compiled has
+record Taken (l : List ℕ) (bytes : ℕ) : Type 0 where
+  good : testedRules l ≡ Good
+  room : needed (allRules l) ≤ roomOf bytes
+
+was-taken : (l : List ℕ) (bytes : ℕ) → compiling l bytes .no ≡ 0 → Taken l bytes
+unfolding compiling behindRules
+was-taken l bytes e = go (testedRules l) refl (le-or-lt (needed (allRules l)) (roomOf bytes)) e
+  where
+    go : (t : ListTest) → testedRules l ≡ t → (needed (allRules l) ≤ roomOf bytes) ⊎ (roomOf bytes < needed (allRules l))
+        → behindRules t (if ltb (roomOf bytes) (needed (allRules l)) then refused refusal.space (needed (allRules l)) 0 else done (needed (allRules l)) 0 0 0) .no ≡ 0
+        → Taken l bytes
+    go (Refused f) p q z = absurd (fault-some f z)
+    go Good p (inl q) z = record { good = p; room = q }
+    go Good p (inr q) z = absurd (omega (arith, rw (lt-ltb (roomOf bytes) (needed (allRules l)) q) at z))
+
+-- ---- the compiled table
+
+module _ (l before : List ℕ) (bl : Bytes l) (r : Compiled) (t : List ℕ) (c : Compiling l before r t) (ok : compiledAs r .no ≡ 0) where
+  entries : List Entry
+  entries = entriesOf 0 (allRules l)
+
+  holds : Taken l (length before)
+  holds = was-taken l (length before) (ap (λ (a : Answer). a .no) (sym (c .says)) ∙ ok)
+
+  count : compiledAs r .a ≡ needed (allRules l)
+  count = ap (λ (a : Answer). a .a) (c .says ∙ taken l (length before) (holds .good) (holds .room))
+
+  length-is : length entries ≡ needed (allRules l)
+  unfolding entries
+  length-is = length-entries 0 (allRules l)
+
+  sound : AllSound (allRules l)
+  sound = all-sound (length l / ruleSize) 0 l bl (good-list l (holds .good) .good)
+
+  fits : 0 + length (tableBytes entries) ≤ length before
+  fits = omega (arith, length-table entries, length-is, holds .room)
+
+  rest : List ℕ
+  rest = drop (0 + length (tableBytes entries)) before
+
+  written : t ≡ tableBytes entries ++ rest
+  unfolding tableLeft writeAt entries rest
+  written = c .leaves ∙ simp (taken l (length before) (holds .good) (holds .room))
+
+  same-length : length t ≡ length before
+  unfolding writeAt rest
+  same-length = ap length written ∙ length-write before 0 (tableBytes entries) fits
+
+  -- what compile writes is never refused with 9 or 10 under the returned count
+  pub never-stated : compiledAs r .a ≤ roomOf (length t)
+  never-stated = omega (arith, count, holds .room, ap roomOf same-length)
+
+  pub never-ill : firstIll (compiledAs r .a) 0 t ≡ None
+  unfolding entries
+  never-ill = rw (count, ← length-is, written) (compiled-formed 0 (allRules l) sound 0 rest)
+
+  found : (h : List ℕ) → Bytes h → length h ≡ keySize → forget (looking t (compiledAs r .a) h) ≡ rule.finding l h
+  unfolding rule.finding rule.findingGood behindRules entries
+  found h bh z = ?
+
+  -- the one equation: whatever the header, the table's answer without the record's index is the rule list's answer
+  pub finds-same : (h : List ℕ) → Bytes h → forget (looking t (compiledAs r .a) h) ≡ rule.finding l h
+  finds-same h bh = ?
+
+  -- and so it is of what the two calls return
+  pub calls-agree : (h : List ℕ) → Bytes h → (f : Found) (g : rule-answer.Found) → foundAs f ≡ looking t (compiledAs r .a) h → rule.foundAs g ≡ rule.finding l h
+      → forget (foundAs f) ≡ rule.foundAs g
+  calls-agree h bh f g ef eg = ap forget ef ∙ finds-same h bh ∙ sym eg
