@@ -37,6 +37,9 @@ read-rule-requires c κs = simp (length-take, length-drop) (omega arith)
 bad-field-requires : tie.Need-bad-field-requires Inv-loop μ-loop
 bad-field-requires c κs = tt
 
+cast-t17 : tie.Need-cast-t17 Inv-loop μ-loop
+cast-t17 c = omega arith
+
 returns-3 : tie.Need-returns-3 Inv-loop μ-loop
 returns-3 c =
     let t = c .before .before .before .before .before .loop .inv in
@@ -73,6 +76,7 @@ test-rules-spec =
     part-read-rule-end
     read-rule-requires
     bad-field-requires
+    cast-t17
     returns-3
     add-at
     add-i

@@ -2,6 +2,7 @@
 use Prim.Native.Nat.{_-_}
 use native.Mathlib.Omega.{arith}
 use lib.ListN.{length-drop, length-take}
+use Rattle.rules.proofs.Goods.{good-list}
 use Rattle.rules.proofs.Turning.{Sought, sought-end, sought-found, sought-lengths, sought-start, sought-turn}
 use Rattle.rules.proofs.finding.first_rule.Statement.{statement}
 use Rattle.rules.proofs.finding.first_rule.Tie as tie
@@ -29,6 +30,9 @@ read-rule-requires c κs = simp (length-take, length-drop) (omega arith)
 
 rule-matches-requires : tie.Need-rule-matches-requires Inv-loop μ-loop
 rule-matches-requires c κs = sought-lengths _ _ _ _ (c .before .before .before .loop .inv) _ (omega arith) (c .read-rule .ensures)
+
+cast-t14 : tie.Need-cast-t14 Inv-loop μ-loop
+cast-t14 c = omega (arith, good-list _ (c .before .before .before .before .before .before .before .pre) .few)
 
 returns : tie.Need-returns Inv-loop μ-loop
 returns c =
@@ -64,6 +68,7 @@ first-rule-spec =
     part-read-rule-end
     read-rule-requires
     rule-matches-requires
+    cast-t14
     returns
     add-at
     add-i
