@@ -5,6 +5,7 @@ use mathlib.Core.Path.{_≡_, refl, sym, ap, _∙_}
 use Prim.Native.Nat.{ℕ, zero, suc}
 use lib.Dec.{eqb}
 use lib.IntN.{ℤ}
+use Rattle.answers.proofs.ReadBack.{back}
 use Rattle.answers.specs.Refusals as refusal
 use Rattle.answers.specs.declared.Answer.{Answer}
 use Rattle.bits.specs.Choice.{if_then_else_}
@@ -28,10 +29,6 @@ use Rattle.intervals.specs.declared.walks.Gave.{Gave}
 use Rattle.intervals.specs.declared.walks.Gave.the-variants as gave
 use Rattle.intervals.specs.declared.walks.Step.{Step}
 use Rattle.intervals.specs.declared.walks.Walk.{Walk}
-
--- what an answer reads back as determines it
-back : {A B : Type 0} (f : A → B) (g : B → A) → ((x : A) → g (f x) ≡ x) → (y : B) (r s : A) → f r ≡ y → f s ≡ y → r ≡ s
-back f g h y r s p q = sym (h r) ∙ ap g (p ∙ sym q) ∙ h s
 
 -- ---- reading back
 

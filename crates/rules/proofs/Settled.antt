@@ -4,6 +4,7 @@ use mathlib.Core.List.{List}
 use mathlib.Core.Path.{_≡_, refl, sym, ap, _∙_}
 use Prim.Native.Nat.{ℕ}
 use lib.Dec.{eqb}
+use Rattle.answers.proofs.ReadBack.{back}
 use Rattle.answers.specs.Refusals as refusal
 use Rattle.answers.specs.declared.Answer.{Answer}
 use Rattle.bits.specs.Choice.{if_then_else_}
@@ -50,4 +51,4 @@ pub one-test : (l : List ℕ) (r s : ListTest) → r ≡ testedRules l → s ≡
 one-test l r s p q = p ∙ sym q
 
 pub one-find : (l h : List ℕ) (r s : Found) → foundAs r ≡ finding l h → foundAs s ≡ finding l h → r ≡ s
-one-find l h r s p q = sym (found-back r) ∙ ap foundFrom (p ∙ sym q) ∙ found-back s
+one-find l h = back foundAs foundFrom found-back (finding l h)

@@ -5,12 +5,12 @@ use mathlib.Core.Bool.{Bool, true, false, not}
 use mathlib.Core.List.{List, _++_}
 use mathlib.Core.Logic.{_⊎_, inl, inr}
 use mathlib.Core.Path.{_≡_, refl, sym, ap, ap₂, _∙_}
-use Prim.Native.Nat.{ℕ, zero, suc, _+_, _*_, _≤_, _<_}
+use Prim.Native.Nat.{ℕ, zero, suc, _+_, _/_, _≤_, _<_}
 use native.Mathlib.Omega.{arith}
 use lib.Dec.{eqb, ltb}
 use lib.ListN.{drop, length}
 use lib.Seq.{getD-drop}
-use borrow.Author.Tests.{le-ltb, lt-ltb, ltb-false}
+use borrow.Author.Tests.{eqb-false, eqb-true, le-ltb, lt-ltb}
 use Rattle.answers.specs.Answers.{done, refused}
 use Rattle.answers.specs.Refusals as refusal
 use Rattle.answers.specs.declared.Answer.{Answer}
@@ -53,9 +53,10 @@ unfolding rulesOf
 all-sound zero i l b e = tt
 all-sound (suc n) i l b e =
     let g = good-next i (ruleAt l) (rulesOf n (drop ruleSize l)) e in
-    let f = fine (ruleAt l) (g .0) in
-    (record { fits = rule-fits l b; src = f .src; dst = f .dst; action = f .action },
-    all-sound n (i + 1) (drop ruleSize l) (λ (j : ℕ). rw getD-drop (b (ruleSize + j))) (g .1))
+    let f = fine (ruleAt l) (g .0) in (
+      record { fits = rule-fits l b; src = f .src; dst = f .dst; action = f .action },
+      all-sound n (i + 1) (drop ruleSize l) (λ (j : ℕ). rw getD-drop (b (ruleSize + j))) (g .1),
+    )
 
 -- ---- what compiling answers
 
@@ -132,13 +133,29 @@ module _ (l before : List ℕ) (bl : Bytes l) (r : Compiled) (t : List ℕ) (c :
   unfolding entries
   never-ill = rw (count, ← length-is, written) (compiled-formed 0 (allRules l) sound 0 rest)
 
-  found : (h : List ℕ) → Bytes h → length h ≡ keySize → forget (looking t (compiledAs r .a) h) ≡ rule.finding l h
-  unfolding rule.finding rule.findingGood behindRules entries
-  found h bh z = ?
+  looked : (h : List ℕ) → looking t (compiledAs r .a) h ≡ lookingFormed t (compiledAs r .a) h
+  looked h = looking-found t (compiledAs r .a) h never-stated never-ill
+
+  -- the rule list's answer, as the list is well formed
+  read : (h : List ℕ) → rule.finding l h ≡ rule.findingGood l h
+  unfolding rule.finding behindRules
+  read h = simp (holds .good)
 
   -- the one equation: whatever the header, the table's answer without the record's index is the rule list's answer
   pub finds-same : (h : List ℕ) → Bytes h → forget (looking t (compiledAs r .a) h) ≡ rule.finding l h
-  finds-same h bh = ?
+  unfolding rule.findingGood entries
+  finds-same h bh = go (eqb (length h) keySize) refl
+    where
+      go : (b : Bool) → eqb (length h) keySize ≡ b → forget (looking t (compiledAs r .a) h) ≡ rule.finding l h
+      go true e =
+          let z : length h ≡ keySize = eqb-true (length h) keySize e in
+          ap forget (looked h ∙ formed-found t (compiledAs r .a) h z)
+          ∙ ap forget (ap₂ (λ (k : ℕ) (u : List ℕ). firstRecord k 0 u h) (count ∙ sym length-is) written)
+          ∙ table-finds (allRules l) sound h z bh rest
+          ∙ sym (read h ∙ simp e)
+      go false e =
+          ap forget (looked h ∙ sym (formed-header t (compiledAs r .a) h (eqb-false (length h) keySize e)))
+          ∙ sym (read h ∙ simp e)
 
   -- and so it is of what the two calls return
   pub calls-agree : (h : List ℕ) → Bytes h → (f : Found) (g : rule-answer.Found) → foundAs f ≡ looking t (compiledAs r .a) h → rule.foundAs g ≡ rule.finding l h

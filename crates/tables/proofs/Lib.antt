@@ -1,4 +1,17 @@
+pub mod Totals
+pub mod Filling
+pub mod Promises
 pub mod Gathering
 pub mod Scanning
 pub mod Indices
+pub mod Any
+pub mod Parts
+pub mod FieldWords
+pub mod Headers
+pub mod RuleRecords
+pub mod RuleWords
+pub mod AllBits
+pub mod FormedTable
+pub mod Demand2
+pub mod Compiled
 pub mod Settled

@@ -4,16 +4,18 @@ use mathlib.Core.List.{List}
 use mathlib.Core.Path.{_≡_, refl, sym, ap, _∙_}
 use Prim.Native.Nat.{ℕ}
 use lib.Dec.{eqb}
+use Rattle.answers.proofs.ReadBack.{back}
 use Rattle.answers.specs.Refusals as refusal
 use Rattle.answers.specs.declared.Answer.{Answer}
 use Rattle.bits.specs.Choice.{if_then_else_}
+use Rattle.rules.proofs.Settled.{fault-back, listFaultFrom}
+use Rattle.rules.specs.declared.faults.ListFault.the-variants.{Odd, Many, Bad}
+use Rattle.tables.specs.Compiling.{Compiling, compiledAs}
 use Rattle.tables.specs.Looking.{foundAs, looking}
+use Rattle.tables.specs.declared.compiling.Compiled.{Compiled}
+use Rattle.tables.specs.declared.compiling.Compiled.the-variants as compiled
 use Rattle.tables.specs.declared.finding.Found.{Found}
 use Rattle.tables.specs.declared.finding.Found.the-variants as found
-
--- what an answer reads back as determines it
-back : {A B : Type 0} (f : A → B) (g : B → A) → ((x : A) → g (f x) ≡ x) → (y : B) (r s : A) → f r ≡ y → f s ≡ y → r ≡ s
-back f g h y r s p q = sym (h r) ∙ ap g (p ∙ sym q) ∙ h s
 
 -- ---- reading back
 
@@ -32,7 +34,25 @@ found-back found.Stated = refl
 found-back (found.Ill j) = refl
 found-back found.Header = refl
 
+compiledFrom : Answer → Compiled
+compiledFrom r =
+    if eqb (r .no) 0 then compiled.Words (r .a)
+    else if eqb (r .no) refusal.space then compiled.Space (r .a)
+    else compiled.Refused (listFaultFrom r)
+
+compiled-back : (r : Compiled) → compiledFrom (compiledAs r) ≡ r
+unfolding compiledFrom
+compiled-back (compiled.Words k) = refl
+compiled-back (compiled.Space k) = refl
+compiled-back (compiled.Refused Odd) = ap compiled.Refused (fault-back Odd)
+compiled-back (compiled.Refused Many) = ap compiled.Refused (fault-back Many)
+compiled-back (compiled.Refused (Bad i f)) = ap compiled.Refused (fault-back (Bad i f))
+
 -- ---- two outcomes
 
 pub one-word : (t : List ℕ) (k : ℕ) (h : List ℕ) (r s : Found) → foundAs r ≡ looking t k h → foundAs s ≡ looking t k h → r ≡ s
 one-word t k h = back foundAs foundFrom found-back (looking t k h)
+
+pub one-compile : (l before : List ℕ) (r s : Compiled) (x y : List ℕ) → Compiling l before r x → Compiling l before s y → (r ≡ s) × (x ≡ y)
+one-compile l before r s x y p q =
+    (back compiledAs compiledFrom compiled-back (compiledAs s) r s (p .says ∙ sym (q .says)) refl, p .leaves ∙ sym (q .leaves))
