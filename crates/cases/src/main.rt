@@ -2,6 +2,7 @@
 // worked out from the document.
 mod intervals_run;
 mod say;
+mod tables_run;
 
 fn main() {
     intervals_run::bounds();
@@ -9,4 +10,5 @@ fn main() {
     intervals_run::lists();
     intervals_run::walks();
     intervals_run::checks();
+    tables_run::run();
 }

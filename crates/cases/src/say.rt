@@ -18,6 +18,29 @@ pub fn half(x: u16) {
     io::print_decimal(STDOUT_FILENO, x as u64);
 }
 
+pub fn byte(x: u8) {
+    io::print_decimal(STDOUT_FILENO, x as u64);
+}
+
+// One digit below 16, in capitals.
+fn digit(x: u8) {
+    match x {
+        10 => text(b"A"),
+        11 => text(b"B"),
+        12 => text(b"C"),
+        13 => text(b"D"),
+        14 => text(b"E"),
+        15 => text(b"F"),
+        _ => byte(x),
+    }
+}
+
+// A byte as two hex digits.
+pub fn hex(x: u8) {
+    digit(x / 16);
+    digit(x % 16);
+}
+
 pub fn end() {
     text(b"\n");
 }

@@ -1,0 +1,652 @@
+// The cases of rule lists, headers and tables.
+use crate::say;
+use rules::ListFault;
+use tables::Compiled;
+
+// A rule for any protocol, addresses and ports, permitted.
+fn any_rule() -> [u8; 21] {
+    [
+        1,
+        0,
+        0,
+        0,
+        0,
+        0,
+        0,
+        0,
+        0,
+        0,
+        0,
+        0,
+        0,
+        0,
+        255,
+        255,
+        0,
+        0,
+        255,
+        255,
+        0,
+    ]
+}
+
+// The rule with another byte.
+fn with(r: [u8; 21], at: usize, x: u8) -> [u8; 21] {
+    let mut s = r;
+    if at < 21 {
+        s[at] = x;
+    }
+    s
+}
+
+// The first n bytes, or all where there are fewer.
+fn part(s: &[u8], n: usize) -> &[u8] {
+    if n <= s.len() {
+        return &s[..n];
+    }
+    s
+}
+
+fn list_fault(f: ListFault) {
+    match f {
+        ListFault::Odd => say::refused(5),
+        ListFault::Many => say::refused(6),
+        ListFault::Bad(i, field) => {
+            say::refused(7);
+            say::text(b" with ");
+            say::number(i);
+            say::text(b", ");
+            say::byte(field);
+        }
+    }
+}
+
+fn compiled(c: Compiled) {
+    match c {
+        Compiled::Words(k) => {
+            say::number(k);
+            say::text(b" words");
+        }
+        Compiled::Refused(f) => list_fault(f),
+        Compiled::Space(k) => {
+            say::refused(8);
+            say::text(b" with ");
+            say::number(k);
+        }
+    }
+    say::end();
+}
+
+fn words(c: Compiled) -> usize {
+    match c {
+        Compiled::Words(k) => k as usize,
+        Compiled::Refused(_) => 0,
+        Compiled::Space(_) => 0,
+    }
+}
+
+// Compiles into the first bytes of a table.
+fn compile_part(rules: &[u8], table: &mut [u8], room: usize) -> Compiled {
+    if table.len() < room {
+        return Compiled::Words(0);
+    }
+    tables::compile(rules, &mut table[..room])
+}
+
+fn compile_label(label: &[u8]) {
+    say::text(b"compile ");
+    say::text(label);
+    say::text(b": ");
+}
+
+// Compiles into a table of so many bytes.
+fn compile_in(label: &[u8], rules: &[u8], room: usize) {
+    let mut table = [0u8; 57344];
+    compile_label(label);
+    compiled(compile_part(rules, &mut table, room));
+}
+
+// Compiles into a table with room for 2,048 words.
+fn compile(label: &[u8], rules: &[u8]) {
+    compile_in(label, rules, 57344);
+}
+
+fn by_rule(label: &[u8], rules: &[u8], header: &[u8]) {
+    say::text(b"by rule, ");
+    say::text(label);
+    say::text(b": ");
+    match rules::find_rule(rules, header) {
+        rules::Found::Rule(i, action) => {
+            say::text(b"rule ");
+            say::number(i);
+            say::text(b", action ");
+            say::byte(action);
+        }
+        rules::Found::Nothing => say::text(b"nothing"),
+        rules::Found::Refused(f) => list_fault(f),
+        rules::Found::Header => say::refused(11),
+    }
+    say::end();
+}
+
+fn by_word(label: &[u8], table: &[u8], k: usize, header: &[u8]) {
+    say::text(b"by word, ");
+    say::text(label);
+    say::text(b": ");
+    match tables::find_word(table, k, header) {
+        tables::Found::Record {
+            index,
+            rule,
+            action,
+        } => {
+            say::text(b"record ");
+            say::number(index);
+            say::text(b", rule ");
+            say::number(rule);
+            say::text(b", action ");
+            say::byte(action);
+        }
+        tables::Found::Nothing => say::text(b"nothing"),
+        tables::Found::Stated => say::refused(9),
+        tables::Found::Ill(i) => {
+            say::refused(10);
+            say::text(b" with ");
+            say::number(i);
+        }
+        tables::Found::Header => say::refused(11),
+    }
+    say::end();
+}
+
+// Compiles, and finds a header in the table.
+fn compile_find(label: &[u8], rules: &[u8], header: &[u8]) {
+    let mut table = [0u8; 57344];
+    let k = words(tables::compile(rules, &mut table));
+    by_word(label, &table, k, header);
+}
+
+// Finds a header in the rules, and in the table compiled from them.
+fn both(label: &[u8], rules: &[u8], header: &[u8]) {
+    by_rule(label, rules, header);
+    compile_find(label, rules, header);
+}
+
+// Table 1 of source document 001, and a header with ports 1080 and 2080.
+fn first_table() {
+    let rules = [
+        1u8,
+        0,
+        0,
+        0,
+        0,
+        0,
+        0,
+        0,
+        0,
+        0,
+        0,
+        0,
+        0,
+        1,
+        255,
+        255,
+        26,
+        134,
+        26,
+        134,
+        0, //
+        1,
+        0,
+        0,
+        0,
+        0,
+        0,
+        0,
+        0,
+        0,
+        0,
+        0,
+        0,
+        3,
+        232,
+        7,
+        208,
+        0,
+        1,
+        21,
+        213,
+        0, //
+        1,
+        0,
+        0,
+        0,
+        0,
+        0,
+        0,
+        0,
+        0,
+        0,
+        0,
+        0,
+        0,
+        0,
+        255,
+        255,
+        0,
+        0,
+        255,
+        255,
+        1,
+    ];
+    let second = [6u8, 10, 0, 0, 1, 10, 0, 0, 2, 4, 56, 8, 32];
+    let first = [6u8, 10, 0, 0, 1, 10, 0, 0, 2, 4, 56, 26, 134];
+    let last = [6u8, 10, 0, 0, 1, 10, 0, 0, 2, 0, 0, 26, 134];
+    compile(b"table 1 of source document 001", &rules);
+    both(b"ports 1080 and 2080", &rules, &second);
+    both(b"ports 1080 and 6790", &rules, &first);
+    both(b"ports 0 and 6790", &rules, &last);
+}
+
+// Bytes in hex.
+fn hex(s: &[u8]) {
+    let mut i: usize = 0;
+    while i < s.len() {
+        say::hex(s[i]);
+        i += 1;
+    }
+    say::end();
+}
+
+// The whole record of document 01.
+fn whole_record() {
+    let rule = [
+        0u8,
+        6,
+        0,
+        0,
+        0,
+        0,
+        0,
+        10,
+        0,
+        0,
+        0,
+        8,
+        0,
+        0,
+        255,
+        255,
+        1,
+        246,
+        1,
+        247,
+        0,
+    ];
+    let mut table = [0u8; 28];
+    compile_label(b"the whole record");
+    compiled(tables::compile(&rule, &mut table));
+    say::text(b"record: ");
+    hex(&table);
+}
+
+// Rules of 900 words each: ports 1..65534 on both sides.
+fn wide_rules() {
+    let rules = [
+        1u8,
+        0,
+        0,
+        0,
+        0,
+        0,
+        0,
+        0,
+        0,
+        0,
+        0,
+        0,
+        0,
+        1,
+        255,
+        254,
+        0,
+        1,
+        255,
+        254,
+        0, //
+        1,
+        0,
+        0,
+        0,
+        0,
+        0,
+        0,
+        0,
+        0,
+        0,
+        0,
+        0,
+        0,
+        1,
+        255,
+        254,
+        0,
+        1,
+        255,
+        254,
+        1, //
+        1,
+        0,
+        0,
+        0,
+        0,
+        0,
+        0,
+        0,
+        0,
+        0,
+        0,
+        0,
+        0,
+        1,
+        255,
+        254,
+        0,
+        1,
+        255,
+        254,
+        2,
+    ];
+    let ports = [17u8, 0, 0, 0, 0, 0, 0, 0, 0, 255, 254, 255, 254];
+    compile(b"900 words", part(&rules, 21));
+    compile(b"1,800 words", part(&rules, 42));
+    compile_find(b"ports 65534 and 65534", part(&rules, 42), &ports);
+    compile(b"2,700 words", &rules);
+    compile_in(b"900 words, room for 900", part(&rules, 21), 25200);
+    compile_in(b"900 words, room for 899", part(&rules, 21), 25199);
+}
+
+// No rules, and lengths around a rule's and a header's.
+fn lengths() {
+    let more = [
+        1u8,
+        0,
+        0,
+        0,
+        0,
+        0,
+        0,
+        0,
+        0,
+        0,
+        0,
+        0,
+        0,
+        0,
+        255,
+        255,
+        0,
+        0,
+        255,
+        255,
+        0,
+        1,
+    ];
+    let header = [6u8, 0, 0, 0, 0, 0, 0, 0, 0, 0, 0, 0, 0];
+    compile(b"no rules", part(&more, 0));
+    both(b"no rules", part(&more, 0), &header);
+    compile(b"20 bytes", part(&more, 20));
+    compile(b"21 bytes", part(&more, 21));
+    compile(b"22 bytes", &more);
+    by_rule(b"20 bytes", part(&more, 20), &header);
+    by_rule(b"a header of 12 bytes", part(&more, 21), part(&header, 12));
+    by_rule(
+        b"a header of 12 bytes, 20 bytes of rules",
+        part(&more, 20),
+        part(&header, 12),
+    );
+    by_rule(b"a header of 14 bytes", part(&more, 21), part(&more, 14));
+    by_rule(b"a header of 13 bytes", part(&more, 21), &header);
+}
+
+// Fills the list with copies of one rule.
+fn copies(rules: &mut [u8]) {
+    let one = any_rule();
+    let mut i: usize = 0;
+    while i < rules.len() {
+        rules[i] = one[i % 21];
+        i += 1;
+    }
+}
+
+fn set(s: &mut [u8], at: usize, x: u8) {
+    if at < s.len() {
+        s[at] = x;
+    }
+}
+
+// 257 rules, with two of their bytes set.
+fn limits(first: u8, last: u8) {
+    let mut rules = [0u8; 5397];
+    let header = [6u8, 0, 0, 0, 0, 0, 0, 0, 0, 0, 0, 0, 0];
+    copies(&mut rules);
+    set(&mut rules, 20, first);
+    set(&mut rules, 5375, last);
+    compile(b"256 rules", part(&rules, 5376));
+    compile(b"257 rules", &rules);
+    by_rule(b"256 rules", part(&rules, 5376), &header);
+    by_rule(b"257 rules", &rules, &header);
+}
+
+fn bad(label: &[u8], r: [u8; 21]) {
+    let header = [6u8, 0, 0, 0, 0, 0, 0, 0, 0, 0, 0, 0, 0];
+    by_rule(label, &r, &header);
+}
+
+// Each bad field alone.
+fn fields() {
+    let r = any_rule();
+    bad(b"flag 2", with(r, 0, 2));
+    bad(b"protocol 6 under any", with(r, 1, 6));
+    bad(b"source length 33", with(r, 6, 33));
+    bad(b"source 10.0.0.1/8", with(with(with(r, 2, 10), 5, 1), 6, 8));
+    bad(
+        b"source 10.0.0.1/32",
+        with(with(with(r, 2, 10), 5, 1), 6, 32),
+    );
+    bad(b"destination length 33", with(r, 11, 33));
+    bad(
+        b"destination 10.0.0.1/8",
+        with(with(with(r, 7, 10), 10, 1), 11, 8),
+    );
+    bad(b"destination 128.0.0.0/0", with(r, 7, 128));
+    bad(
+        b"source ports 256-0",
+        with(with(with(r, 12, 1), 14, 0), 15, 0),
+    );
+    bad(
+        b"destination ports 1-0",
+        with(with(with(r, 17, 1), 18, 0), 19, 0),
+    );
+    bad(b"action 3", with(r, 20, 3));
+    bad(b"action 4", with(r, 20, 4));
+}
+
+// Bad fields in pairs: the first of them is named.
+fn pairs() {
+    let r = any_rule();
+    bad(b"flag 2 and protocol 6", with(with(r, 0, 2), 1, 6));
+    bad(
+        b"protocol 6 and source length 33",
+        with(with(r, 1, 6), 6, 33),
+    );
+    bad(
+        b"source length 33 and address bits",
+        with(with(r, 2, 10), 6, 33),
+    );
+    bad(
+        b"source address bits and destination length 33",
+        with(with(r, 2, 10), 11, 33),
+    );
+    bad(
+        b"destination length 33 and address bits",
+        with(with(r, 7, 10), 11, 33),
+    );
+    bad(
+        b"destination address bits and source ports 256-255",
+        with(with(with(r, 7, 10), 12, 1), 14, 0),
+    );
+    bad(
+        b"both port intervals crossed",
+        with(with(with(with(r, 12, 1), 14, 0), 16, 1), 18, 0),
+    );
+    bad(
+        b"destination ports 256-255 and action 4",
+        with(with(with(r, 16, 1), 18, 0), 20, 4),
+    );
+    bad(b"flag 2 and action 4", with(with(r, 0, 2), 20, 4));
+}
+
+// A table of two records: protocol 6 to 10.0.0.0/8 on port 502, permitted; anything, denied. Three of its bytes may be others.
+fn two_records(value: u8, first: u8, last: u8) -> [u8; 56] {
+    [
+        6,
+        value,
+        0,
+        0,
+        0,
+        10,
+        0,
+        0,
+        0,
+        0,
+        0,
+        1,
+        246,
+        255,
+        0,
+        0,
+        0,
+        0,
+        255,
+        0,
+        0,
+        0,
+        0,
+        0,
+        255,
+        255,
+        0,
+        first, //
+        0,
+        0,
+        0,
+        0,
+        0,
+        0,
+        0,
+        0,
+        0,
+        0,
+        0,
+        0,
+        0,
+        0,
+        0,
+        0,
+        0,
+        0,
+        0,
+        0,
+        0,
+        0,
+        0,
+        0,
+        0,
+        0,
+        1,
+        last,
+    ]
+}
+
+// Stated counts and headers.
+fn stated() {
+    let header = [6u8, 0, 0, 0, 0, 10, 0, 0, 7, 0, 0, 1, 246];
+    let other = [17u8, 0, 0, 0, 0, 10, 0, 0, 7, 0, 0, 1, 246, 0];
+    by_word(b"the first record", &two_records(0, 0, 1), 2, &header);
+    by_word(
+        b"the second record",
+        &two_records(0, 0, 1),
+        2,
+        part(&other, 13),
+    );
+    by_word(
+        b"one record counted",
+        &two_records(0, 0, 1),
+        1,
+        part(&other, 13),
+    );
+    by_word(b"no record counted", &two_records(0, 0, 1), 0, &header);
+    by_word(b"three records counted", &two_records(0, 0, 1), 3, &header);
+    by_word(
+        b"two counted, 55 bytes",
+        part(&two_records(0, 0, 1), 55),
+        2,
+        &header,
+    );
+    by_word(
+        b"a header of 12 bytes",
+        &two_records(0, 0, 1),
+        2,
+        part(&header, 12),
+    );
+    by_word(b"a header of 14 bytes", &two_records(0, 0, 1), 2, &other);
+}
+
+// Ill-formed records, first and last.
+fn ill() {
+    let header = [6u8, 0, 0, 0, 0, 10, 0, 0, 7, 0, 0, 1, 246];
+    by_word(
+        b"action 4 in the first record, a short header",
+        &two_records(0, 4, 1),
+        2,
+        part(&header, 12),
+    );
+    by_word(
+        b"action 4 in both records",
+        &two_records(0, 4, 4),
+        2,
+        &header,
+    );
+    by_word(
+        b"action 4 in the last record",
+        &two_records(0, 0, 4),
+        2,
+        &header,
+    );
+    by_word(
+        b"action 4 behind the counted records",
+        &two_records(0, 0, 4),
+        1,
+        &header,
+    );
+    by_word(
+        b"a value bit outside the first mask",
+        &two_records(1, 0, 1),
+        2,
+        &header,
+    );
+}
+
+pub fn run() {
+    first_table();
+    whole_record();
+    wide_rules();
+    lengths();
+    limits(0, 0);
+    limits(0, 4);
+    limits(4, 4);
+    fields();
+    pairs();
+    stated();
+    ill();
+}
