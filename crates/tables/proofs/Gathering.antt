@@ -69,9 +69,3 @@ module _ (d r : ℕ) (t h : List ℕ) (j : ℕ) (room : recordSize ≤ length t)
   unfolding agreeing
   agree-turn e =
       rw (match-turn, e) (sym (and-assoc (eqb d 0) (eqb (bitAnd (getD h j 0) (getD t (keySize + j) 0)) (getD t j 0)) (matchFrom t h (j + 1))))
-
--- one byte of the record's own value more
-pub value-turn : (d r : ℕ) (t : List ℕ) (j : ℕ) → recordSize ≤ length t → j < keySize
-    → eqb r 0 ≡ (eqb d 0 && eqb (bitAnd (getD t j 0) (getD t (keySize + j) 0)) (getD t j 0)) → agreeing d t (valueOf t) j ≡ agreeing r t (valueOf t) (j + 1)
-value-turn d r t j room s e =
-    agree-turn d r t (valueOf t) j room (length-take-le keySize t (omega arith)) s (rw (getD-take keySize t j 0 s) e)

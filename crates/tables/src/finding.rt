@@ -5,7 +5,6 @@ ghost use Prim.Native.Nat.{_*_, _≤_};
 ghost use lib.Bits.{bitAnd};
 ghost use lib.Dec.{eqb};
 ghost use lib.ListN.{length};
-ghost use Rattle.records.specs.Entries.{valueOf};
 ghost use Rattle.records.specs.Layout.{keySize, recordSize};
 ghost use Rattle.tables.specs.Looking.{Fit, firstIll, firstRecord, foundAs, looking, lookingFormed, recordFormed?, recordMatches?};
 use crate::compiling::room;
@@ -51,26 +50,12 @@ fn matches_record(t: &[u8], h: &[u8]) -> bool
     d == 0
 }
 
-// No value bit of the record at the start of t stands where its mask is 0.
-fn formed_bytes(t: &[u8]) -> bool
-    requires { ⌜ recordSize ≤ length (now t) ⌝ }
-    ensures { λ r. ⌜ r ≡ recordMatches? (now (t .entry)) (valueOf (now (t .entry))) ⌝ }
-{
-    let mut d: u8 = 0;
-    let mut j: usize = 0;
-    while j < KEY_SIZE {
-        d = differing(d, t[j], t[MASK_AT + j], t[j]);
-        j += 1;
-    }
-    d == 0
-}
-
-// The record at the start of t is well formed.
+// The record at the start of t is well formed: it matches its own value, and its action is known.
 fn formed_record(t: &[u8]) -> bool
     requires { ⌜ recordSize ≤ length (now t) ⌝ }
     ensures { λ r. ⌜ r ≡ recordFormed? (now (t .entry)) ⌝ }
 {
-    if formed_bytes(t) {
+    if matches_record(t, &t[..KEY_SIZE]) {
         return t[ACTION_AT] <= 3;
     }
     false
