@@ -1,0 +1,78 @@
+/* The peak stack of each call of libtablet.a: the call runs on a stack that was painted before, and the bytes that lost their
+ * paint are counted. An empty call is measured first and taken off.
+ *
+ *   cc -O2 -Iinclude compare/stack.c target/staticlib/libtablet.a -o target/stack -lpthread && target/stack
+ */
+#include "ashkavorz.h"
+
+#include <pthread.h>
+#include <stdio.h>
+#include <stdlib.h>
+#include <string.h>
+
+#define STACK (256 * 1024)
+#define PAINT 0xA5
+
+static uint16_t numbers[60];
+static uint8_t rules[21 * 256];
+static uint8_t table[28 * 2048];
+static const uint8_t header[13] = {6, 0, 0, 0, 0, 10, 0, 0, 255, 0x07, 0xd0, 0x01, 0xf6};
+static uint32_t words;
+static volatile uint32_t kept;
+
+static void nothing(void) { kept = 0; }
+static void close_(void) { kept = ashkavorz_close(16, 0, 65535).a; }
+static void count(void) { kept = ashkavorz_count(16, 1, 65534).a; }
+static void list(void) { kept = ashkavorz_list(16, 1, 65534, numbers, 60).a; }
+static void step(void) { kept = ashkavorz_step((struct ashkavorz_walk){16, 1, 65534, 0}).value; }
+static void check(void) { kept = ashkavorz_check(16, 1, 65534, numbers, 60, 30).a; }
+static void compile(void) { kept = words = ashkavorz_compile(rules, sizeof rules, table, sizeof table).a; }
+static void find_rule(void) { kept = ashkavorz_find_rule(rules, sizeof rules, header, sizeof header).a; }
+static void find_word(void) { kept = ashkavorz_find_word(table, sizeof table, words, header, sizeof header).a; }
+
+static void *run(void *call)
+{
+    (*(void (**)(void))call)();
+    return NULL;
+}
+
+static size_t used(void (*call)(void))
+{
+    unsigned char *stack = NULL;
+    pthread_attr_t attributes;
+    pthread_t thread;
+    size_t untouched = 0;
+    if (posix_memalign((void **)&stack, 4096, STACK) != 0)
+        exit(2);
+    memset(stack, PAINT, STACK);
+    if (pthread_attr_init(&attributes) != 0 || pthread_attr_setstack(&attributes, stack, STACK) != 0)
+        exit(2);
+    if (pthread_create(&thread, &attributes, run, &call) != 0 || pthread_join(thread, NULL) != 0)
+        exit(2);
+    while (untouched < STACK && stack[untouched] == PAINT)
+        untouched++;
+    free(stack);
+    return STACK - untouched;
+}
+
+int main(void)
+{
+    static const struct { const char *name; void (*call)(void); } calls[] = {
+        {"close", close_}, {"count", count}, {"list", list}, {"step", step}, {"check", check},
+        {"compile", compile}, {"find_rule", find_rule}, {"find_word", find_word},
+    };
+    for (size_t i = 0; i < 256; i++) {
+        uint8_t *r = rules + 21 * i;
+        const uint8_t ports[8] = {0x03, 0xe8, 0x07, 0xd0, 0x01, 0xf6, 0x01, 0xf6};
+        r[1] = 6;
+        r[7] = 10;
+        r[10] = (uint8_t)i;
+        r[11] = 32;
+        memcpy(r + 12, ports, sizeof ports);
+    }
+    used(nothing);
+    size_t base = used(nothing);
+    for (size_t i = 0; i < sizeof calls / sizeof calls[0]; i++)
+        printf("| %s | %zu |\n", calls[i].name, used(calls[i].call) - base);
+    return 0;
+}
