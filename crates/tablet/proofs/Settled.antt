@@ -1,0 +1,43 @@
+-- Any two outcomes that an exported function's contract allows for one input coincide: the answer, and the lent memory where
+-- there is any. A caller in C who knows the arguments, the memory lent and the definitions knows what comes back.
+-- Assumes nothing.
+use mathlib.Core.List.{List}
+use mathlib.Core.Path.{_≡_, sym, _∙_}
+use Prim.Native.Nat.{ℕ}
+use lib.IntN.{ℤ}
+use Rattle.answers.specs.declared.Answer.{Answer}
+use Rattle.intervals.specs.Bounds.{closing}
+use Rattle.intervals.specs.Checks.{checking}
+use Rattle.intervals.specs.Lists.{counting}
+use Rattle.rules.specs.Finding.{finding}
+use Rattle.tables.specs.Looking.{looking}
+use Rattle.tablet.specs.Faces.{Compiles, Lists, in32, stepFace}
+use Rattle.tablet.specs.declared.steps.Step.{Step}
+use Rattle.tablet.specs.declared.steps.Walk.{Walk}
+
+pub one-close : (n : ℕ) (a b : ℤ) (r s : Answer) → r ≡ closing n a b → s ≡ closing n a b → r ≡ s
+one-close n a b r s p q = p ∙ sym q
+
+pub one-count : (n low high : ℕ) (r s : Answer) → r ≡ counting n low high → s ≡ counting n low high → r ≡ s
+one-count n low high r s p q = p ∙ sym q
+
+pub one-list : (n low high : ℕ) (before : List ℕ) (r s : Answer) (x y : List ℕ)
+    → Lists n low high before r x → Lists n low high before s y → (r ≡ s) × (x ≡ y)
+one-list n low high before r s x y p q = (p .says ∙ sym (q .says), p .leaves ∙ sym (q .leaves))
+
+pub one-step : (w : Walk) (r s : Step) → r ≡ stepFace w → s ≡ stepFace w → r ≡ s
+one-step w r s p q = p ∙ sym q
+
+pub one-check : (n low high : ℕ) (l : List ℕ) (k : ℕ) (r s : Answer)
+    → r ≡ in32 (checking n low high l k) → s ≡ in32 (checking n low high l k) → r ≡ s
+one-check n low high l k r s p q = p ∙ sym q
+
+pub one-compile : (l before : List ℕ) (r s : Answer) (x y : List ℕ)
+    → Compiles l before r x → Compiles l before s y → (r ≡ s) × (x ≡ y)
+one-compile l before r s x y p q = (p .says ∙ sym (q .says), p .leaves ∙ sym (q .leaves))
+
+pub one-rule : (l h : List ℕ) (r s : Answer) → r ≡ finding l h → s ≡ finding l h → r ≡ s
+one-rule l h r s p q = p ∙ sym q
+
+pub one-word : (t : List ℕ) (k : ℕ) (h : List ℕ) (r s : Answer) → r ≡ looking t k h → s ≡ looking t k h → r ≡ s
+one-word t k h r s p q = p ∙ sym q
