@@ -1,14 +1,14 @@
 /* The peak stack of each call of libtablet.a: the call runs on a stack that was painted before, and the bytes that lost their
  * paint are counted. An empty call is measured first and taken off.
  *
- *   cc -O2 -Iinclude compare/stack.c target/staticlib/libtablet.a -o target/stack -lpthread && target/stack
+ *   cc -O2 -Iinclude compare/stack.c target/staticlib/libtablet.a -o target/stack && target/stack
  */
 #include "ashkavorz.h"
 
-#include <pthread.h>
 #include <stdio.h>
 #include <stdlib.h>
 #include <string.h>
+#include <ucontext.h>
 
 #define STACK (256 * 1024)
 #define PAINT 0xA5
@@ -30,29 +30,24 @@ static void compile(void) { kept = words = ashkavorz_compile(rules, sizeof rules
 static void find_rule(void) { kept = ashkavorz_find_rule(rules, sizeof rules, header, sizeof header).a; }
 static void find_word(void) { kept = ashkavorz_find_word(table, sizeof table, words, header, sizeof header).a; }
 
-static void *run(void *call)
-{
-    (*(void (**)(void))call)();
-    return NULL;
-}
+static ucontext_t home, away;
 
 static size_t used(void (*call)(void))
 {
-    unsigned char *stack = NULL;
-    pthread_attr_t attributes;
-    pthread_t thread;
+    static unsigned char stack[STACK];
     size_t untouched = 0;
-    if (posix_memalign((void **)&stack, 4096, STACK) != 0)
-        exit(2);
     memset(stack, PAINT, STACK);
-    if (pthread_attr_init(&attributes) != 0 || pthread_attr_setstack(&attributes, stack, STACK) != 0)
+    if (getcontext(&away) != 0)
         exit(2);
-    if (pthread_create(&thread, &attributes, run, &call) != 0 || pthread_join(thread, NULL) != 0)
+    away.uc_stack.ss_sp = stack;
+    away.uc_stack.ss_size = STACK;
+    away.uc_link = &home;
+    makecontext(&away, call, 0);
+    if (swapcontext(&home, &away) != 0)
         exit(2);
     while (untouched < STACK && stack[untouched] == PAINT)
         untouched++;
-    free(stack);
-    return STACK - untouched;
+    return (STACK - untouched + 15) / 16 * 16;
 }
 
 int main(void)
@@ -70,7 +65,6 @@ int main(void)
         r[11] = 32;
         memcpy(r + 12, ports, sizeof ports);
     }
-    used(nothing);
     size_t base = used(nothing);
     for (size_t i = 0; i < sizeof calls / sizeof calls[0]; i++)
         printf("| %s | %zu |\n", calls[i].name, used(calls[i].call) - base);
