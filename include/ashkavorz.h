@@ -7,24 +7,30 @@
  *
  * Answers. `no` is 0 where the call is done; the values a, b, c, d are then the call's own, as each declaration says. Else `no`
  * is the refusal's number, and a and b are what is returned with it. What is not used is 0. Where several refusals apply, the
- * lowest number is given.
+ * lowest number is given; only reading a sheet tests in an order of its own: 21, 6, 20, 4.
  *
  *   no  given exactly when                                             a                         b
  *    1  the width is not 1..16
  *    2  an interval end or open bound does not fit the width
  *    3  low > high, or B - A < 2
  *    4  a list to be written has fewer than 2k numbers of room         k, the words needed
+ *       a sheet's records do not fit the bytes lent                    the bytes needed
  *    5  the rule list's length is not a multiple of 21
- *    6  there are more than 256 rules
+ *    6  there are more than 256 rules, or a byte after a sheet's 256th line feed
  *    7  a rule is bad                                                  the lowest bad rule       its first bad field
  *    8  the words needed exceed the table's room                       the words needed
  *    9  the stated count of words exceeds the list or the table
  *   10  a counted word is ill formed                                   the lowest such index
  *   11  the header has not 13 bytes
+ *   20  a sheet's line is bad                                          the first bad line, from 1   its first bad field
+ *   21  a sheet has more than 65,536 bytes
  *
  * Bad fields of a rule, in the order they are tested: 1 flag above 1; 2 protocol not 0 under flag 1; 3 source length above 32;
  * 4 source address bits set beyond its length; 5 and 6 the same for the destination; 7 source low > high; 8 destination
  * low > high; 9 action above 3.
+ *
+ * Bad fields of a sheet's line: 0 not six fields, or no line feed; 1 protocol; 2 source; 3 destination; 4 source ports;
+ * 5 destination ports; 6 action.
  *
  * Words. A word of width n is a value and a mask: a mask bit of 1 means that the bit counts, 0 is a don't care. In a list each
  * word takes two numbers, value then mask.
@@ -92,6 +98,12 @@ struct ashkavorz_answer ashkavorz_find_rule(const uint8_t *rules, size_t rules_l
 /* The first of the table's k records that matches the header. Done: a 1, b its index, c its rule number, d its action; or a 0
  * where none matches. Refusals 9, 10, 11. */
 struct ashkavorz_answer ashkavorz_find_word(const uint8_t *table, size_t table_len, size_t k, const uint8_t *header, size_t header_len);
+
+/* Reads a rule sheet into 21-byte records; bytes after the last record stay as they were. One rule a line, each ended by a line
+ * feed, six fields parted by single tabs: protocol (0-255 or *), source and destination as a.b.c.d/len, source and destination
+ * ports as low-high, and permit, deny, permit-log or deny-log. Decimal numbers, no leading zeros, nothing else. An empty sheet is
+ * good. Done: a rules. Refusals, tested in this order: 21, 6, 20, 4. */
+struct ashkavorz_answer ashkavorz_read_sheet(const uint8_t *text, size_t text_len, uint8_t *rules, size_t rules_len);
 
 #ifdef __cplusplus
 }

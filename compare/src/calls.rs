@@ -48,7 +48,7 @@ impl Tally {
 
 type Outcome = Result<(), String>;
 
-fn same<T: PartialEq + std::fmt::Debug>(what: impl FnOnce() -> String, ours: T, theirs: T) -> Outcome {
+pub fn same<T: PartialEq + std::fmt::Debug>(what: impl FnOnce() -> String, ours: T, theirs: T) -> Outcome {
     if ours == theirs {
         Ok(())
     } else {

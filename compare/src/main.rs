@@ -1,5 +1,8 @@
 //! compare cases | papers      print what crates/cases/stdout and crates/papers/stdout must hold
 //! compare calls               compare libtablet.a with the plain version on many inputs, from a fixed seed
+//! compare sheets              compare reading sheets, the same way
+//! compare program PATH        compare what the program at PATH prints for many sheets
+//! compare printed             print what the program must print for the sheet on standard input
 //! compare lists               print 16-bit prefix lists, for Python's ipaddress to be compared with
 //! compare bench               measure both versions in one run, as ratios
 
@@ -10,8 +13,10 @@ mod lists;
 mod papers;
 mod plain;
 mod random;
+mod sheet;
+mod sheets;
 
-use std::process::ExitCode;
+use std::{io::Read, process::ExitCode};
 
 fn calls() -> Result<(), String> {
     let mut tally = calls::Tally::default();
@@ -21,6 +26,13 @@ fn calls() -> Result<(), String> {
     calls::checks(&mut random, 40_000, &mut tally)?;
     calls::tables(&mut random, 4_000, &mut tally)?;
     tally.report()
+}
+
+fn printed() -> Result<(), String> {
+    let mut text = Vec::new();
+    std::io::stdin().read_to_end(&mut text).map_err(|e| e.to_string())?;
+    print!("{}", sheet::printed(&text));
+    Ok(())
 }
 
 fn main() -> ExitCode {
@@ -34,6 +46,9 @@ fn main() -> ExitCode {
             Ok(())
         }
         Some("calls") => calls(),
+        Some("sheets") => sheets::compare(),
+        Some("program") => sheets::compare_program(&std::env::args().nth(2).unwrap_or_default()),
+        Some("printed") => printed(),
         Some("lists") => {
             lists::print();
             Ok(())
@@ -42,7 +57,7 @@ fn main() -> ExitCode {
             bench::run();
             Ok(())
         }
-        _ => Err("which part? cases, papers, calls, lists or bench".into()),
+        _ => Err("which part? cases, papers, calls, sheets, program, printed, lists or bench".into()),
     };
     match outcome {
         Ok(()) => ExitCode::SUCCESS,

@@ -44,3 +44,11 @@ ill = 10
 -- the header has not 13 bytes
 abbrev pub header : ℕ
 header = 11
+
+-- a line of a sheet is bad; the first such line, from 1, and its first bad field come with it
+abbrev pub line : ℕ
+line = 20
+
+-- a sheet is too long
+abbrev pub long : ℕ
+long = 21

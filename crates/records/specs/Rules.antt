@@ -1,8 +1,8 @@
 -- The 21 bytes of a rule, and the rules of a list of bytes.
-use mathlib.Core.List.{List, [], _∷_}
+use mathlib.Core.List.{List, [], _∷_, _++_}
 use Prim.Native.Nat.{ℕ, zero, suc, _/_}
 use lib.ListN.{drop, getD, length}
-use Rattle.fields.specs.Bytes.{at2, at4}
+use Rattle.fields.specs.Bytes.{at2, at4, be2, be4}
 use Rattle.records.specs.Layout.{ruleSize}
 use Rattle.records.specs.declared.Rule.{Rule}
 
@@ -30,3 +30,21 @@ rulesOf (suc n) l = ruleAt l ∷ rulesOf n (drop ruleSize l)
 -- all of them
 abbrev pub allRules : List ℕ → List Rule
 allRules l = rulesOf (length l / ruleSize) l
+
+-- an address and its length, and an interval of ports, as bytes
+abbrev pub prefixBytes : ℕ → ℕ → List ℕ
+prefixBytes a len = be4 a ++ (len ∷ [])
+
+abbrev pub portsBytes : ℕ → ℕ → List ℕ
+portsBytes low high = be2 low ++ be2 high
+
+unfoldable pub ruleBytes : Rule → List ℕ
+ruleBytes r =
+    r .flag ∷ r .proto
+    ∷ (prefixBytes (r .src) (r .slen) ++ (prefixBytes (r .dst) (r .dlen)
+    ++ (portsBytes (r .slow) (r .shigh) ++ (portsBytes (r .dlow) (r .dhigh) ++ (r .action ∷ [])))))
+
+-- a rule list's bytes
+unfoldable pub listBytes : List Rule → List ℕ
+listBytes [] = []
+listBytes (r ∷ rs) = ruleBytes r ++ listBytes rs

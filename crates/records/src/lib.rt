@@ -7,7 +7,7 @@ ghost use Rattle.fields.specs.Writes.{writeAt};
 ghost use Rattle.records.specs.Keys.{keyAt, keyBytes};
 ghost use Rattle.records.specs.Entries.{entryBytes, entryOf};
 ghost use Rattle.records.specs.Layout.{keySize, recordSize, ruleSize};
-ghost use Rattle.records.specs.Rules.{ruleAt};
+ghost use Rattle.records.specs.Rules.{portsBytes, prefixBytes, ruleAt, ruleBytes};
 
 // Bytes of a header, of a word's value and of its mask.
 pub const KEY_SIZE: usize = 13;
@@ -68,6 +68,36 @@ pub fn read_rule(s: &[u8]) -> Rule
         dhigh: fields::get2(s, 18),
         action: s[20],
     }
+}
+
+fn put_prefix(t: &mut [u8], at: usize, address: u32, len: u8)
+    requires { ⌜ at + 5 ≤ length (now t) ⌝ }
+    ensures { λ _. ⌜ now (t .exit) ≡ writeAt (now (t .entry)) at (prefixBytes address len) ⌝ }
+{
+    fields::put4(t, at, address);
+    fields::put1(t, at + 4, len);
+}
+
+fn put_ports(t: &mut [u8], at: usize, low: u16, high: u16)
+    requires { ⌜ at + 4 ≤ length (now t) ⌝ }
+    ensures { λ _. ⌜ now (t .exit) ≡ writeAt (now (t .entry)) at (portsBytes low high) ⌝ }
+{
+    fields::put2(t, at, low);
+    fields::put2(t, at + 2, high);
+}
+
+// Writes a rule.
+pub fn put_rule(t: &mut [u8], at: usize, r: Rule)
+    requires { ⌜ at + ruleSize ≤ length (now t) ⌝ }
+    ensures { λ _. ⌜ now (t .exit) ≡ writeAt (now (t .entry)) at (ruleBytes r) ⌝ }
+{
+    fields::put1(t, at, r.flag);
+    fields::put1(t, at + 1, r.proto);
+    put_prefix(t, at + 2, r.src, r.slen);
+    put_prefix(t, at + 7, r.dst, r.dlen);
+    put_ports(t, at + 12, r.slow, r.shigh);
+    put_ports(t, at + 16, r.dlow, r.dhigh);
+    fields::put1(t, at + 20, r.action);
 }
 
 // The header at the start of s.

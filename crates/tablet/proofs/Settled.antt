@@ -11,7 +11,7 @@ use Rattle.intervals.specs.Checks.{checking}
 use Rattle.intervals.specs.Lists.{counting}
 use Rattle.rules.specs.Finding.{finding}
 use Rattle.tables.specs.Looking.{looking}
-use Rattle.tablet.specs.Faces.{Compiles, Lists, in32, stepFace}
+use Rattle.tablet.specs.Faces.{Compiles, Lists, ReadsSheet, in32, stepFace}
 use Rattle.tablet.specs.declared.steps.Step.{Step}
 use Rattle.tablet.specs.declared.steps.Walk.{Walk}
 
@@ -41,3 +41,7 @@ one-rule l h r s p q = p ∙ sym q
 
 pub one-word : (t : List ℕ) (k : ℕ) (h : List ℕ) (r s : Answer) → r ≡ looking t k h → s ≡ looking t k h → r ≡ s
 one-word t k h r s p q = p ∙ sym q
+
+pub one-read : (t before : List ℕ) (r s : Answer) (x y : List ℕ)
+    → ReadsSheet t before r x → ReadsSheet t before s y → (r ≡ s) × (x ≡ y)
+one-read t before r s x y p q = (p .says ∙ sym (q .says), p .leaves ∙ sym (q .leaves))

@@ -10,6 +10,7 @@ use Rattle.bits.specs.Choice.{if_then_else_}
 use Rattle.intervals.specs.Lists.{listLeft, listing}
 use Rattle.intervals.specs.Walks.{Stepped, stepping}
 use Rattle.intervals.specs.declared.walks.Walk as inner
+use Rattle.sheets.specs.Reading.{reading, rulesLeft}
 use Rattle.tables.specs.Compiling.{compiling, tableLeft}
 use Rattle.tablet.specs.declared.steps.Step.{Step}
 use Rattle.tablet.specs.declared.steps.Walk.{Walk}
@@ -27,6 +28,11 @@ pub record Lists (n low high : ℕ) (before : List ℕ) (r : Answer) (after : Li
 pub record Compiles (l before : List ℕ) (r : Answer) (after : List ℕ) : Type 0 where
   pub says : r ≡ compiling l (length before)
   pub leaves : after ≡ tableLeft l before
+
+-- the promise of ashkavorz_read_sheet
+pub record ReadsSheet (s before : List ℕ) (r : Answer) (after : List ℕ) : Type 0 where
+  pub says : r ≡ reading s (length before)
+  pub leaves : after ≡ rulesLeft s before
 
 -- a walk as it is handed in: any number but 0 means ended
 abbrev pub handedIn : Walk → inner.Walk

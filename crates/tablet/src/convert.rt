@@ -8,6 +8,7 @@ ghost use Rattle.intervals.specs.Ends.{numberOf};
 ghost use Rattle.intervals.specs.Lists.{countedAs, listedAs};
 ghost use Rattle.rules.specs.Faults.{listFaultAs};
 ghost use Rattle.rules.specs.Finding as rule;
+ghost use Rattle.sheets.specs.Reading.{readAs};
 ghost use Rattle.tables.specs.Compiling.{compiledAs};
 ghost use Rattle.tables.specs.Looking as word;
 ghost use Rattle.tablet.specs.Faces.{in32};
@@ -18,6 +19,7 @@ use intervals::Counted;
 use intervals::Fault;
 use intervals::Listed;
 use rules::ListFault;
+use sheets::Sheet;
 use tables::Compiled;
 
 fn done_with(a: u32, b: u32, c: u32, d: u32) -> Answer
@@ -139,5 +141,17 @@ pub fn found_word(f: tables::Found) -> Answer
         tables::Found::Stated => refused_with(9, 0, 0),
         tables::Found::Ill(i) => refused_with(10, i, 0),
         tables::Found::Header => refused_with(11, 0, 0),
+    }
+}
+
+pub fn sheet(s: Sheet) -> Answer
+    ensures { λ r. ⌜ r ≡ readAs s ⌝ }
+{
+    match s {
+        Sheet::Long => refused_with(21, 0, 0),
+        Sheet::Many => refused_with(6, 0, 0),
+        Sheet::Bad(line, field) => refused_with(20, line, field),
+        Sheet::Room(bytes) => refused_with(4, bytes, 0),
+        Sheet::Rules(n) => done_with(n, 0, 0, 0),
     }
 }

@@ -1,4 +1,4 @@
-// The C face: one exported function for each call of document 01, with no logic of its own. Each hands its arguments on and
+// The C face: one exported function for each call, with no logic of its own. Each hands its arguments on and
 // turns the answer into document 01's number and values. include/ashkavorz.h declares them for C.
 mod convert;
 mod steps;
@@ -9,7 +9,7 @@ ghost use Rattle.intervals.specs.Checks.{checking};
 ghost use Rattle.intervals.specs.Lists.{counting};
 ghost use Rattle.rules.specs.Finding.{finding};
 ghost use Rattle.tables.specs.Looking.{looking};
-ghost use Rattle.tablet.specs.Faces.{Compiles, Lists, in32, stepFace};
+ghost use Rattle.tablet.specs.Faces.{Compiles, Lists, ReadsSheet, in32, stepFace};
 use answers::Answer;
 pub use steps::Step;
 pub use steps::Walk;
@@ -68,4 +68,11 @@ pub extern "C" fn ashkavorz_find_word(table: &[u8], k: usize, header: &[u8]) -> 
     ensures { λ r. ⌜ r ≡ looking (now (table .entry)) k (now (header .entry)) ⌝ }
 {
     convert::found_word(tables::find_word(table, k, header))
+}
+
+#[no_mangle]
+pub extern "C" fn ashkavorz_read_sheet(text: &[u8], rules: &mut [u8]) -> Answer
+    ensures { λ r. ⌜ ReadsSheet (now (text .entry)) (now (rules .entry)) r (now (rules .exit)) ⌝ }
+{
+    convert::sheet(sheets::read(text, rules))
 }

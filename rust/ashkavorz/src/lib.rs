@@ -76,6 +76,11 @@ pub fn find_word(table: &[u8], words: usize, header: &[u8]) -> Result<Option<Rec
     done(raw::find_word(table, words, header)).map(|r| (r.a == 1).then_some(Record { index: r.b, rule: r.c, action: r.d }))
 }
 
+/// Reads a rule sheet's text into 21-byte records, and answers how many rules were written.
+pub fn read_sheet(text: &[u8], rules: &mut [u8]) -> Result<u32, Refusal> {
+    done(raw::read_sheet(text, rules)).map(|r| r.a)
+}
+
 /// The prefix words of an interval, one by one.
 #[derive(Clone, Copy, Debug)]
 pub struct Words {
@@ -143,6 +148,7 @@ pub mod raw {
             pub fn ashkavorz_compile(rules: *const u8, rules_len: usize, table: *mut u8, table_len: usize) -> Answer;
             pub fn ashkavorz_find_rule(rules: *const u8, rules_len: usize, header: *const u8, header_len: usize) -> Answer;
             pub fn ashkavorz_find_word(table: *const u8, table_len: usize, k: usize, header: *const u8, header_len: usize) -> Answer;
+            pub fn ashkavorz_read_sheet(text: *const u8, text_len: usize, rules: *mut u8, rules_len: usize) -> Answer;
         }
     }
 
@@ -176,5 +182,8 @@ pub mod raw {
 
     pub fn find_word(table: &[u8], k: usize, header: &[u8]) -> Answer {
         unsafe { c::ashkavorz_find_word(table.as_ptr(), table.len(), k, header.as_ptr(), header.len()) }
+    }
+    pub fn read_sheet(text: &[u8], rules: &mut [u8]) -> Answer {
+        unsafe { c::ashkavorz_read_sheet(text.as_ptr(), text.len(), rules.as_mut_ptr(), rules.len()) }
     }
 }

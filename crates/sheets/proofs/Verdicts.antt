@@ -1,0 +1,74 @@
+-- Reading a sheet: what is answered at each return, and what the lent memory holds then. Assumes nothing.
+use mathlib.Core.Bool.{Bool, true, false}
+use mathlib.Core.List.{List}
+use mathlib.Core.Path.{_≡_, refl, sym, ap, _∙_}
+use Prim.Native.Nat.{ℕ, _*_, _≤_, _<_}
+use native.Mathlib.Omega.{arith}
+use lib.Dec.{eqb}
+use lib.ListN.{length, take}
+use lib.Seq.{take-at}
+use borrow.Author.Tests.{le-ltb, lt-ltb}
+use Rattle.answers.specs.Answers.{done, refused}
+use Rattle.answers.specs.Refusals as refusal
+use Rattle.fields.specs.Writes.{writeAt}
+use Rattle.records.specs.Layout.{ruleLimit, ruleSize}
+use Rattle.records.specs.Rules.{listBytes}
+use Rattle.sheets.specs.Reading.{ReadRows, Reading, behindRows, many?, reading, rulesLeft, rulesRead, sheetLimit}
+use Rattle.sheets.specs.declared.reading.Sheet.the-variants as sheet
+use Rattle.sheets.specs.declared.rows.Rows.{Rows}
+use Rattle.sheets.specs.declared.rows.Rows.the-variants as rows
+use Rattle.sheets.proofs.Counted.{counted}
+use Rattle.sheets.proofs.RuleSizes.{length-rules}
+
+-- what is written at the start stands there
+written-first : (d s : List ℕ) (n : ℕ) → length s ≡ n → take n (writeAt d 0 s) ≡ s
+unfolding writeAt
+written-first d s n e = take-at s _ n e
+
+pub rules-few : (s free held : List ℕ) (x : Rows) (n : ℕ) → ReadRows s free x held → x ≡ rows.Good n → n ≤ ruleLimit
+rules-few s free held x n r g = omega (arith, counted ruleLimit 0 n s (sym (r .says) ∙ g) .few)
+
+module _ (s lent : List ℕ) where
+  -- a refused call changes nothing
+  unchanged : (number a b : ℕ) → eqb number 0 ≡ false → refused number a b ≡ reading s (length lent) → lent ≡ rulesLeft s lent
+  unfolding rulesLeft
+  unchanged number a b n e = rw (← e, n)
+
+  pub sheet-long : sheetLimit < length s → Reading s lent sheet.Long lent
+  unfolding reading
+  sheet-long h =
+      let e : refused refusal.long 0 0 ≡ reading s (length lent) = simp (lt-ltb sheetLimit (length s) h) in
+      record { says = e; leaves = unchanged refusal.long 0 0 refl e }
+
+  pub sheet-many : length s ≤ sheetLimit → {b : Bool} → b ≡ many? s → b ≡ true → Reading s lent sheet.Many lent
+  unfolding reading
+  sheet-many h m t =
+      let e : refused refusal.many 0 0 ≡ reading s (length lent) = simp (le-ltb sheetLimit (length s) h, sym m ∙ t) in
+      record { says = e; leaves = unchanged refusal.many 0 0 refl e }
+
+  module _ (h : length s ≤ sheetLimit) (b : Bool) (m : b ≡ many? s) (f : b ≡ false) (x : Rows) (free held : List ℕ) (r : ReadRows s free x held) where
+    behind : behindRows x (length lent) ≡ reading s (length lent)
+    unfolding reading
+    behind = simp (le-ltb sheetLimit (length s) h, sym m ∙ f) (ap (λ (y : Rows). behindRows y (length lent)) (r .says))
+
+    pub sheet-bad : (line field : ℕ) → x ≡ rows.Bad line field → Reading s lent (sheet.Bad line field) lent
+    unfolding behindRows
+    sheet-bad line field g =
+        let e : refused refusal.line line field ≡ reading s (length lent) = ap (λ (y : Rows). behindRows y (length lent)) (sym g) ∙ behind in
+        record { says = e; leaves = unchanged refusal.line line field refl e }
+
+    module _ (n : ℕ) (g : x ≡ rows.Good n) where
+      pub sheet-room : length lent < ruleSize * n → Reading s lent (sheet.Room (ruleSize * n)) lent
+      unfolding behindRows
+      sheet-room l =
+          let e : refused refusal.room (ruleSize * n) 0 ≡ reading s (length lent) = rw (← behind, g) (simp (lt-ltb (length lent) (ruleSize * n) l)) in
+          record { says = e; leaves = unchanged refusal.room (ruleSize * n) 0 refl e }
+
+      pub sheet-rules : ruleSize * n ≤ length lent → (left : List ℕ) → left ≡ writeAt lent 0 (take (ruleSize * n) held) → Reading s lent (sheet.Rules n) left
+      unfolding behindRows rulesLeft
+      sheet-rules l left w =
+          let rs = rulesRead ruleLimit s in
+          let k : length (listBytes rs) ≡ ruleSize * n = omega (arith, length-rules rs, counted ruleLimit 0 n s (sym (r .says) ∙ g) .is) in
+          let t : take (ruleSize * n) held ≡ listBytes rs = rw (r .leaves) (written-first free (listBytes rs) (ruleSize * n) k) in
+          let e : done n 0 0 0 ≡ reading s (length lent) = rw (← behind, g) (simp (le-ltb (length lent) (ruleSize * n) l)) in
+          record { says = e; leaves = w ∙ ap (writeAt lent 0) t ∙ rw (← e) }
