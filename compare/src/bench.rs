@@ -1,7 +1,7 @@
 //! The library against the plain version, same machine, same input, both optimised, in interleaved rounds. Each row is the
 //! median of its rounds; the last column is the library's time divided by the plain version's.
 
-use crate::{lean, plain, random::Random};
+use crate::{plain, random::Random};
 use ashkavorz::raw;
 use std::{hint::black_box, time::Instant};
 
@@ -94,13 +94,6 @@ pub fn run() {
         &mut |_| { black_box(raw::list(16, 1, 65_534, &mut a)); },
         &mut |_| { black_box(plain::list(16, 1, 65_534, &mut b)); },
     );
-    row(
-        "list, the same, against trailing zeros by hand",
-        ROUNDS,
-        100_000,
-        &mut |_| { black_box(raw::list(16, 1, 65_534, &mut a)); },
-        &mut |_| { black_box(lean::list(16, 1, 65_534, &mut b)); },
-    );
     let start = raw::Walk { width: 16, next: 1, last: 65_534, ended: 0 };
     let (mut w, mut v) = (start, start);
     row(
@@ -109,13 +102,6 @@ pub fn run() {
         1_000_000,
         &mut |_| { w = raw::step(black_box(w)).walk; if w.ended != 0 { w = start; } },
         &mut |_| { v = plain::step(black_box(v)).walk; if v.ended != 0 { v = start; } },
-    );
-    row(
-        "step, the same, against trailing zeros by hand",
-        ROUNDS,
-        1_000_000,
-        &mut |_| { w = raw::step(black_box(w)).walk; if w.ended != 0 { w = start; } },
-        &mut |_| { v = lean::step(black_box(v)).walk; if v.ended != 0 { v = start; } },
     );
     let own: Vec<u16> = plain::words(16, 1, 65_534).iter().flat_map(|w| [w.0, w.1]).collect();
     row(

@@ -9,7 +9,6 @@
 mod bench;
 mod calls;
 mod cases;
-mod lean;
 mod lists;
 mod papers;
 mod plain;
