@@ -5,29 +5,13 @@ use tables::Compiled;
 
 // A rule for any protocol, addresses and ports, permitted.
 fn any_rule() -> [u8; 21] {
-    [
-        1,
-        0,
-        0,
-        0,
-        0,
-        0,
-        0,
-        0,
-        0,
-        0,
-        0,
-        0,
-        0,
-        0,
-        255,
-        255,
-        0,
-        0,
-        255,
-        255,
-        0,
-    ]
+    let mut r = [0u8; 21];
+    r[0] = 1;
+    r[14] = 255;
+    r[15] = 255;
+    r[18] = 255;
+    r[19] = 255;
+    r
 }
 
 // The rule with another byte.
@@ -173,78 +157,16 @@ fn both(label: &[u8], rules: &[u8], header: &[u8]) {
 
 // Table 1 of source document 001, and a header with ports 1080 and 2080.
 fn first_table() {
-    let rules = [
-        1u8,
-        0,
-        0,
-        0,
-        0,
-        0,
-        0,
-        0,
-        0,
-        0,
-        0,
-        0,
-        0,
-        1,
-        255,
-        255,
-        26,
-        134,
-        26,
-        134,
-        0, //
-        1,
-        0,
-        0,
-        0,
-        0,
-        0,
-        0,
-        0,
-        0,
-        0,
-        0,
-        0,
-        3,
-        232,
-        7,
-        208,
-        0,
-        1,
-        21,
-        213,
-        0, //
-        1,
-        0,
-        0,
-        0,
-        0,
-        0,
-        0,
-        0,
-        0,
-        0,
-        0,
-        0,
-        0,
-        0,
-        255,
-        255,
-        0,
-        0,
-        255,
-        255,
-        1,
-    ];
+    let rules = b"\x01\0\0\0\0\0\0\0\0\0\0\0\0\x01\xFF\xFF\x1A\x86\x1A\x86\0\
+        \x01\0\0\0\0\0\0\0\0\0\0\0\x03\xE8\x07\xD0\0\x01\x15\xD5\0\
+        \x01\0\0\0\0\0\0\0\0\0\0\0\0\0\xFF\xFF\0\0\xFF\xFF\x01";
     let second = [6u8, 10, 0, 0, 1, 10, 0, 0, 2, 4, 56, 8, 32];
     let first = [6u8, 10, 0, 0, 1, 10, 0, 0, 2, 4, 56, 26, 134];
     let last = [6u8, 10, 0, 0, 1, 10, 0, 0, 2, 0, 0, 26, 134];
-    compile(b"table 1 of source document 001", &rules);
-    both(b"ports 1080 and 2080", &rules, &second);
-    both(b"ports 1080 and 6790", &rules, &first);
-    both(b"ports 0 and 6790", &rules, &last);
+    compile(b"table 1 of source document 001", rules);
+    both(b"ports 1080 and 2080", rules, &second);
+    both(b"ports 1080 and 6790", rules, &first);
+    both(b"ports 0 and 6790", rules, &last);
 }
 
 // Bytes in hex.
@@ -259,153 +181,46 @@ fn hex(s: &[u8]) {
 
 // The whole record of document 01.
 fn whole_record() {
-    let rule = [
-        0u8,
-        6,
-        0,
-        0,
-        0,
-        0,
-        0,
-        10,
-        0,
-        0,
-        0,
-        8,
-        0,
-        0,
-        255,
-        255,
-        1,
-        246,
-        1,
-        247,
-        0,
-    ];
+    let rule = b"\0\x06\0\0\0\0\0\x0A\0\0\0\x08\0\0\xFF\xFF\x01\xF6\x01\xF7\0";
     let mut table = [0u8; 28];
     compile_label(b"the whole record");
-    compiled(tables::compile(&rule, &mut table));
+    compiled(tables::compile(rule, &mut table));
     say::text(b"record: ");
     hex(&table);
 }
 
 // Rules of 900 words each: ports 1..65534 on both sides.
 fn wide_rules() {
-    let rules = [
-        1u8,
-        0,
-        0,
-        0,
-        0,
-        0,
-        0,
-        0,
-        0,
-        0,
-        0,
-        0,
-        0,
-        1,
-        255,
-        254,
-        0,
-        1,
-        255,
-        254,
-        0, //
-        1,
-        0,
-        0,
-        0,
-        0,
-        0,
-        0,
-        0,
-        0,
-        0,
-        0,
-        0,
-        0,
-        1,
-        255,
-        254,
-        0,
-        1,
-        255,
-        254,
-        1, //
-        1,
-        0,
-        0,
-        0,
-        0,
-        0,
-        0,
-        0,
-        0,
-        0,
-        0,
-        0,
-        0,
-        1,
-        255,
-        254,
-        0,
-        1,
-        255,
-        254,
-        2,
-    ];
+    let rules = b"\x01\0\0\0\0\0\0\0\0\0\0\0\0\x01\xFF\xFE\0\x01\xFF\xFE\0\
+        \x01\0\0\0\0\0\0\0\0\0\0\0\0\x01\xFF\xFE\0\x01\xFF\xFE\x01\
+        \x01\0\0\0\0\0\0\0\0\0\0\0\0\x01\xFF\xFE\0\x01\xFF\xFE\x02";
     let ports = [17u8, 0, 0, 0, 0, 0, 0, 0, 0, 255, 254, 255, 254];
-    compile(b"900 words", part(&rules, 21));
-    compile(b"1,800 words", part(&rules, 42));
-    compile_find(b"ports 65534 and 65534", part(&rules, 42), &ports);
-    compile(b"2,700 words", &rules);
-    compile_in(b"900 words, room for 900", part(&rules, 21), 25200);
-    compile_in(b"900 words, room for 899", part(&rules, 21), 25199);
+    compile(b"900 words", part(rules, 21));
+    compile(b"1,800 words", part(rules, 42));
+    compile_find(b"ports 65534 and 65534", part(rules, 42), &ports);
+    compile(b"2,700 words", rules);
+    compile_in(b"900 words, room for 900", part(rules, 21), 25200);
+    compile_in(b"900 words, room for 899", part(rules, 21), 25199);
 }
 
 // No rules, and lengths around a rule's and a header's.
 fn lengths() {
-    let more = [
-        1u8,
-        0,
-        0,
-        0,
-        0,
-        0,
-        0,
-        0,
-        0,
-        0,
-        0,
-        0,
-        0,
-        0,
-        255,
-        255,
-        0,
-        0,
-        255,
-        255,
-        0,
-        1,
-    ];
+    let more = b"\x01\0\0\0\0\0\0\0\0\0\0\0\0\0\xFF\xFF\0\0\xFF\xFF\0\x01";
     let header = [6u8, 0, 0, 0, 0, 0, 0, 0, 0, 0, 0, 0, 0];
-    compile(b"no rules", part(&more, 0));
-    both(b"no rules", part(&more, 0), &header);
-    compile(b"20 bytes", part(&more, 20));
-    compile(b"21 bytes", part(&more, 21));
-    compile(b"22 bytes", &more);
-    by_rule(b"20 bytes", part(&more, 20), &header);
-    by_rule(b"a header of 12 bytes", part(&more, 21), part(&header, 12));
+    compile(b"no rules", part(more, 0));
+    both(b"no rules", part(more, 0), &header);
+    compile(b"20 bytes", part(more, 20));
+    compile(b"21 bytes", part(more, 21));
+    compile(b"22 bytes", more);
+    by_rule(b"20 bytes", part(more, 20), &header);
+    by_rule(b"a header of 12 bytes", part(more, 21), part(&header, 12));
     by_rule(
         b"a header of 12 bytes, 20 bytes of rules",
-        part(&more, 20),
+        part(more, 20),
         part(&header, 12),
     );
-    by_rule(b"a header of 14 bytes", part(&more, 21), part(&more, 14));
-    by_rule(b"a header of 13 bytes", part(&more, 21), &header);
+    by_rule(b"a header of 14 bytes", part(more, 21), part(more, 14));
+    by_rule(b"a header of 13 bytes", part(more, 21), &header);
 }
 
 // Fills the list with copies of one rule.
@@ -508,64 +323,20 @@ fn pairs() {
 
 // A table of two records: protocol 6 to 10.0.0.0/8 on port 502, permitted; anything, denied. Three of its bytes may be others.
 fn two_records(value: u8, first: u8, last: u8) -> [u8; 56] {
-    [
-        6,
-        value,
-        0,
-        0,
-        0,
-        10,
-        0,
-        0,
-        0,
-        0,
-        0,
-        1,
-        246,
-        255,
-        0,
-        0,
-        0,
-        0,
-        255,
-        0,
-        0,
-        0,
-        0,
-        0,
-        255,
-        255,
-        0,
-        first, //
-        0,
-        0,
-        0,
-        0,
-        0,
-        0,
-        0,
-        0,
-        0,
-        0,
-        0,
-        0,
-        0,
-        0,
-        0,
-        0,
-        0,
-        0,
-        0,
-        0,
-        0,
-        0,
-        0,
-        0,
-        0,
-        0,
-        1,
-        last,
-    ]
+    let mut t = [0u8; 56];
+    t[0] = 6;
+    t[1] = value;
+    t[5] = 10;
+    t[11] = 1;
+    t[12] = 246;
+    t[13] = 255;
+    t[18] = 255;
+    t[24] = 255;
+    t[25] = 255;
+    t[27] = first;
+    t[54] = 1;
+    t[55] = last;
+    t
 }
 
 // Stated counts and headers.
