@@ -1,13 +1,16 @@
--- Together the listed words match exactly the interval, and no two of them overlap. Assumes nothing.
-use mathlib.Core.Path.{_≡_, refl}
-use mathlib.Core.List.{List, [], _∷_, map, List·Memᴰ, List·Memᴰ·head, Memᴰ·append-left, Memᴰ·append-right}
+-- The listed words are prefix words, together match exactly the interval, and no two of them overlap. Assumes nothing.
+use mathlib.Core.Path.{_≡_, refl, sym, subst}
+use mathlib.Core.List.{List, [], _∷_, map, List·Memᴰ, List·Memᴰ·head, List·Memᴰ·not-nil, List·Memᴰ·cases-cons, Memᴰ·append-left, Memᴰ·append-right}
 use mathlib.Core.Logic.{_⊎_, inl, inr}
 use Prim.Native.Nat.{ℕ, zero, suc, _+_, _^_, _≤_, _<_}
 use native.Mathlib.Omega.{arith}
+use lib.Pow.{pow-pos}
 use Rattle.bits.proofs.Orders.{le-or-lt}
-use Rattle.blocks.specs.Words.{Matches, Some, Exactly, Disjoint}
+use Rattle.blocks.specs.Words.{Matches, Some, Exactly, Disjoint, Prefix}
+use Rattle.blocks.specs.declared.Word.{Word}
 use Rattle.blocks.specs.Blocks.{Block, block, prefixOf, Inside, Ascends, tiles, blocksOf, wordsOf}
-use Rattle.blocks.proofs.Held.{AllFit, Held, held-some, match-holds, rest-fit, some-held}
+use Rattle.blocks.proofs.Held.{AllFit, Fits, Held, held-some, match-holds, rest-fit, some-held}
+use Rattle.blocks.proofs.Matching.{prefix-of}
 use Rattle.blocks.proofs.Members.{starts-above, tiles-list}
 use Rattle.blocks.proofs.Tiles.{inside-dec, whole, split}
 
@@ -22,6 +25,19 @@ ascends-disjoint n x y (c ∷ bs) f a = (apart, ascends-disjoint n (c .from + 2 
         let p = match-holds n z c (f c (List·Memᴰ·head refl)) h m in
         let r = some-held n z bs (rest-fit n c bs f) h s in
         omega (arith, starts-above (c .from + 2 ^ c .free) y bs (a .1) (r .by) (r .listed))
+
+-- ---- blocks that fit
+
+words-prefix : (n : ℕ) (bs : List Block) → AllFit n bs → (w : Word) → List·Memᴰ w (map (prefixOf n) bs) → Prefix n w
+words-prefix n [] f w m = absurd (List·Memᴰ·not-nil m)
+words-prefix n (c ∷ bs) f w m = go (List·Memᴰ·cases-cons m) (words-prefix n bs (rest-fit n c bs f) w)
+  where
+    c-fits : Fits n c
+    c-fits = f c (List·Memᴰ·head refl)
+
+    go : (w ≡ prefixOf n c) ⊎ List·Memᴰ w (map (prefixOf n) bs) → (List·Memᴰ w (map (prefixOf n) bs) → Prefix n w) → Prefix n w
+    go (inl e) r = subst (Prefix n) (sym e) (prefix-of n (c .free) (c .from) (c-fits .wide) (omega (arith, c-fits .ends, pow-pos (c .free))) (c-fits .aligned))
+    go (inr t) r = r t
 
 -- ---- the tiles
 
@@ -63,6 +79,9 @@ module _ (n low high : ℕ) where
         let i = tiles-list n low (high + 1) (omega arith) .only (r .by) (r .listed) .inside in
         (omega arith, omega arith);
   }
+
+  pub prefixes : high < 2 ^ n → (w : Word) → List·Memᴰ w (wordsOf n low high) → Prefix n w
+  prefixes h = words-prefix n (blocksOf n low high) (tiles-fit h)
 
   pub disjoint : high < 2 ^ n → Disjoint n (wordsOf n low high)
   disjoint h = ascends-disjoint n 0 (2 ^ n) (blocksOf n low high) (tiles-fit h) (tiles-list n low (high + 1) (omega arith) .order)

@@ -1,7 +1,7 @@
 -- Demand 3, sentence by sentence, for every width. The list is `blocksOf n low high`, its words are `wordsOf n low high`.
 -- Assumes nothing.
 use mathlib.Core.List.{List, List·Memᴰ}
-use mathlib.Core.Path.{_≡_, sym, ap, _∙_}
+use mathlib.Core.Path.{_≡_}
 use Prim.Native.Nat.{ℕ, _+_, _-_, _*_, _^_, _≤_, _<_}
 use native.Mathlib.Omega.{arith}
 use lib.ListN.{length}
@@ -10,7 +10,7 @@ use Rattle.blocks.specs.Counting.{countOf}
 use Rattle.blocks.specs.Words.{Disjoint, Exactly, Prefix}
 use Rattle.blocks.specs.declared.Word.{Word}
 use Rattle.blocks.proofs.Counts.{count-most, count-one}
-use Rattle.blocks.proofs.Covers.{disjoint, exact}
+use Rattle.blocks.proofs.Covers.{disjoint, exact, prefixes}
 use Rattle.blocks.proofs.Lengths.{count-tiles}
 use Rattle.blocks.proofs.Members.{tiles-list}
 use Rattle.blocks.proofs.OneList.{one-list}
@@ -26,7 +26,11 @@ module _ (n low high : ℕ) (order : low ≤ high) (fits : high < 2 ^ n) where
   pub only-list : (bs : List Block) → Lists n low (high + 1) bs → bs ≡ blocksOf n low high
   only-list bs l = one-list n low (high + 1) bs (blocksOf n low high) l lists
 
-  -- their words match exactly the interval
+  -- their words are prefix words
+  pub prefix-words : (w : Word) → List·Memᴰ w (wordsOf n low high) → Prefix n w
+  prefix-words = prefixes n low high fits
+
+  -- and match exactly the interval
   pub matched : Exactly n low high (wordsOf n low high)
   matched = exact n low high fits
 
