@@ -1,4 +1,5 @@
--- The numbers of document 01's refusals, each named for what it is given for. Where several apply, the lowest is given.
+-- The numbers of the refusals of documents 01 and 02, each named for what it is given for. Where several apply, the lowest
+-- is given; reading a sheet alone tests in an order of its own: long, many, line, room.
 use Prim.Native.Nat.{ℕ}
 
 -- the width is not 1 .. 16
@@ -13,7 +14,8 @@ fit = 2
 abbrev pub order : ℕ
 order = 3
 
--- a list to be written has fewer than 2k numbers of room; k comes with it
+-- a list to be written has fewer than 2k numbers of room; k comes with it. The rules of a sheet have fewer bytes of room
+-- than they need; the bytes needed come with it
 abbrev pub room : ℕ
 room = 4
 
