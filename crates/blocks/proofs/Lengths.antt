@@ -12,7 +12,7 @@ use borrow.Author.Tests.{eq-eqb, ne-eqb}
 use Rattle.bits.proofs.Differ.{half-shr, found, top-is}
 use Rattle.bits.proofs.Ones.{ones-zero, ones-one, ones-lead, ones-pow, ones-not}
 use Rattle.bits.proofs.Orders.{le-or-lt}
-use Rattle.bits.specs.Digits.{Differ, topDiffer, zerosBelow}
+use Rattle.bits.specs.Digits.{Differ, topDiffer}
 use Rattle.blocks.specs.Blocks.{Block, tiles, Inside}
 use Rattle.blocks.specs.Counting.{between, countOf}
 use Rattle.blocks.proofs.Multiples.{step-up, finer}

@@ -8,7 +8,7 @@ use native.Mathlib.Omega.{arith}
 use native.Mathlib.Nat.{le-refl, mul-mod-left, zero-mul}
 use lib.Dec.{leb, eqb}
 use lib.Pow.{pow-pos}
-use borrow.Author.Tests.{le-leb, lt-leb, eq-eqb, ne-eqb, eqb-true, leb-true}
+use borrow.Author.Tests.{le-leb, lt-leb, eq-eqb, ne-eqb, leb-true}
 use Rattle.bits.proofs.Orders.{le-or-lt}
 use Rattle.bits.specs.Masks.{Power}
 use Rattle.blocks.specs.Blocks.{Block, block, tiles, Inside}

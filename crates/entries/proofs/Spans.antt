@@ -29,11 +29,6 @@ length-entries i [] = refl
 length-entries i (r ∷ rs) =
     length-append (ruleEntries i r) (entriesOf (i + 1) rs) ∙ ap₂ (λ (x y : ℕ). x + y) (length-rule i 0 r) (length-entries (i + 1) rs)
 
-pub needed-append : (rs ss : List Rule) → needed (rs ++ ss) ≡ needed rs + needed ss
-unfolding needed
-needed-append [] ss = omega arith
-needed-append (r ∷ rs) ss = omega (arith, needed-append rs ss)
-
 -- the records from the first one of rule r on
 pub span : (rs : List Rule) (r : Rule) (ss : List Rule)
     → drop (needed rs) (entriesOf 0 (rs ++ (r ∷ ss))) ≡ ruleEntries (length rs) r ++ entriesOf (length rs + 1) ss

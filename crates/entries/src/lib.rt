@@ -1,6 +1,5 @@
 // One rule's records: every protocol word with every source port word with every destination port word, in that nesting;
 // how many they are, and writing them. Each function has one loop and hands back where the next record goes.
-ghost use mathlib.Core.List.{_++_};
 ghost use mathlib.Core.Path.{_≡_};
 ghost use Prim.Native.Nat.{_*_, _+_, _-_, _≤_};
 ghost use lib.ListN.{length};

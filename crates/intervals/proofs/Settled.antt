@@ -1,8 +1,8 @@
 -- Any two outcomes that a contract allows for one input coincide: the answer, and the lent memory where there is any.
 -- Each answer can be read back from document 01's number and values, so equal numbers mean equal answers. Assumes nothing.
 use mathlib.Core.List.{List}
-use mathlib.Core.Path.{_≡_, refl, sym, ap, _∙_}
-use Prim.Native.Nat.{ℕ, zero, suc}
+use mathlib.Core.Path.{_≡_, refl, sym, _∙_}
+use Prim.Native.Nat.{ℕ}
 use lib.Dec.{eqb}
 use lib.IntN.{ℤ}
 use Rattle.answers.proofs.ReadBack.{back}
@@ -12,7 +12,6 @@ use Rattle.bits.specs.Choice.{if_then_else_}
 use Rattle.blocks.specs.declared.Word.{Word}
 use Rattle.intervals.specs.Bounds.{closedAs, closing}
 use Rattle.intervals.specs.Checks.{checkedAs, checking}
-use Rattle.intervals.specs.Ends.{numberOf}
 use Rattle.intervals.specs.Lists.{Listing, countedAs, counting, listedAs}
 use Rattle.intervals.specs.Walks.{Stepped, steppedAs, steppedBy, stepping}
 use Rattle.intervals.specs.declared.bounds.Closed.{Closed}

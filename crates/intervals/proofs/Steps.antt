@@ -1,13 +1,13 @@
 -- One step of a walk: each return of the code is one case of it. Assumes nothing.
 use mathlib.Core.Bool.{true, false}
-use mathlib.Core.Path.{_≡_, ap, _∙_}
+use mathlib.Core.Path.{_≡_}
 use Prim.Native.Nat.{ℕ, _+_, _^_, _≤_, _<_}
 use borrow.Author.Tests.{lt-ltb, le-ltb}
 use Rattle.bits.specs.Masks.{Power, maskOf}
-use Rattle.blocks.specs.Lowest.{Free, freeOf}
+use Rattle.blocks.specs.Lowest.{freeOf}
 use Rattle.blocks.specs.Words.{word}
 use Rattle.intervals.specs.Ends.{numberOf, tested}
-use Rattle.intervals.specs.Walks.{Stepped, endedAt, gives, steppedFrom, stepping, walkOf, zeros}
+use Rattle.intervals.specs.Walks.{endedAt, gives, steppedFrom, stepping, walkOf, zeros}
 use Rattle.intervals.specs.declared.ends.Fault.{Fault}
 use Rattle.intervals.specs.declared.ends.Tested.the-variants.{Good, Bad}
 use Rattle.intervals.specs.declared.walks.Walk.{Walk}

@@ -54,10 +54,6 @@ rule-fits l b = record {
 
 -- ---- the bytes of a table
 
-pub length-entry : (e : Entry) → length (entryBytes e) ≡ recordSize
-unfolding keyBytes
-length-entry e = refl
-
 pub length-table : (es : List Entry) → length (tableBytes es) ≡ recordSize * length es
 unfolding keyBytes tableBytes
 length-table [] = refl

@@ -4,7 +4,6 @@ use mathlib.Core.Path.{_≡_, refl}
 use Prim.Native.Nat.{ℕ, _+_, _≤_}
 use native.Mathlib.Omega.{arith}
 use lib.ListN.{length}
-use Rattle.fields.specs.Bytes.{be2, be4}
 use Rattle.fields.specs.Writes.{writeAt}
 use Rattle.fields.proofs.Writing.{write-then}
 use Rattle.records.specs.Layout.{ruleSize}

@@ -97,9 +97,6 @@ drop-after c (x ∷ s) n h = go (eqb x c) refl n h (drop-after c s)
 -- ---- the slices that the places part off
 
 module _ {c : ℕ} {s : List ℕ} {r : Places} (k : Cuts c s r) where
-  pub cut-end : r .end ≤ length s
-  cut-end = omega (arith, before-short c s)
-
   pub cut-next : r .next ≤ length s
   cut-next = omega arith
 

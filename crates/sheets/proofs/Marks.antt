@@ -110,8 +110,3 @@ same-true (x ∷ s) (y ∷ t) e = go (eqb x y) refl e (same-true s t)
     go : (b : Bool) → eqb x y ≡ b → (b && same? s t) ≡ true → (same? s t ≡ true → s ≡ t) → x ∷ s ≡ y ∷ t
     go true z w r = ap₂ (λ (a : ℕ) (l : List ℕ). a ∷ l) (eqb-true x y z) (r w)
     go false z w r = let n : _≡_ {A = ℕ} 0 1 = cc in absurd (omega arith)
-
-pub same-refl : (s : List ℕ) → same? s s ≡ true
-unfolding same?
-same-refl [] = refl
-same-refl (x ∷ s) = rw (eq-eqb x x refl) (same-refl s)

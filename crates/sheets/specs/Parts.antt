@@ -1,6 +1,6 @@
 -- The six fields of a line: protocol, two addresses, two port intervals, action. Document 01's tests of a rule are part of
 -- what makes a field good.
-use mathlib.Core.Bool.{Bool, true, false, _&&_, not}
+use mathlib.Core.Bool.{true, false, _&&_, not}
 use mathlib.Core.List.{List, [], _∷_}
 use Prim.Native.Nat.{ℕ, _+_, _*_}
 use lib.Dec.{leb}

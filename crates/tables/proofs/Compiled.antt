@@ -1,7 +1,7 @@
 -- Demand 2, said of what the calls return: looking up a compiled table with the returned count finds, for every header, what
 -- reading the rule list finds; and a well-formed list is turned down exactly where its words outnumber the room.
 -- Assumes nothing.
-use mathlib.Core.Bool.{Bool, true, false, not}
+use mathlib.Core.Bool.{Bool, true, false}
 use mathlib.Core.List.{List, _++_}
 use mathlib.Core.Logic.{_⊎_, inl, inr}
 use mathlib.Core.Path.{_≡_, refl, sym, ap, ap₂, _∙_}
@@ -24,14 +24,11 @@ use Rattle.fields.specs.Bytes.{Bytes}
 use Rattle.fields.specs.Writes.{writeAt}
 use Rattle.records.proofs.Reading.{length-table, rule-fits}
 use Rattle.records.specs.Entries.{Entry, tableBytes}
-use Rattle.records.specs.Keys.{keyAt}
-use Rattle.records.specs.Layout.{keySize, recordSize, roomOf, ruleSize}
+use Rattle.records.specs.Layout.{keySize, roomOf, ruleSize}
 use Rattle.records.specs.Rules.{allRules, ruleAt, rulesOf}
-use Rattle.records.specs.declared.Rule.{Rule}
 use Rattle.rules.proofs.Goods.{fine, good-list, good-next}
 use Rattle.rules.specs.Faults.{behindRules, firstBad, listFaultAs, testedRules}
 use Rattle.rules.specs.Finding as rule
-use Rattle.rules.specs.Meaning.{firstRule}
 use Rattle.rules.specs.declared.faults.ListFault.{ListFault}
 use Rattle.rules.specs.declared.faults.ListFault.the-variants.{Odd, Many, Bad}
 use Rattle.rules.specs.declared.faults.ListTest.{ListTest}

@@ -5,7 +5,6 @@ use Prim.Native.Nat.{ℕ, _+_, _-_, _*_, _≤_, _<_}
 use native.Mathlib.Nat.{zero-add}
 use native.Mathlib.Omega.{arith}
 use lib.ListN.{drop, length, take}
-use Rattle.entries.proofs.RuleCounts.{length-rule}
 use Rattle.entries.specs.Words.{WordCount, needed}
 use Rattle.entries.specs.Words as words
 use Rattle.records.proofs.Reading.{rulesFrom, rules-none, rules-start, rules-turn}
