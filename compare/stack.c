@@ -17,6 +17,7 @@ static uint16_t numbers[60];
 static uint8_t rules[21 * 256];
 static uint8_t table[28 * 2048];
 static const uint8_t header[13] = {6, 0, 0, 0, 0, 10, 0, 0, 255, 0x07, 0xd0, 0x01, 0xf6};
+static const char sheet[] = "6\t0.0.0.0/0\t10.0.0.0/8\t0-65535\t502-503\tpermit\n*\t0.0.0.0/0\t0.0.0.0/0\t0-65535\t0-65535\tdeny\n";
 static uint32_t words;
 static volatile uint32_t kept;
 
@@ -29,6 +30,7 @@ static void check(void) { kept = ashkavorz_check(16, 1, 65534, numbers, 60, 30).
 static void compile(void) { kept = words = ashkavorz_compile(rules, sizeof rules, table, sizeof table).a; }
 static void find_rule(void) { kept = ashkavorz_find_rule(rules, sizeof rules, header, sizeof header).a; }
 static void find_word(void) { kept = ashkavorz_find_word(table, sizeof table, words, header, sizeof header).a; }
+static void read_sheet(void) { kept = ashkavorz_read_sheet((const uint8_t *)sheet, sizeof sheet - 1, rules, sizeof rules).a; }
 
 static ucontext_t home, away;
 
@@ -54,7 +56,7 @@ int main(void)
 {
     static const struct { const char *name; void (*call)(void); } calls[] = {
         {"close", close_}, {"count", count}, {"list", list}, {"step", step}, {"check", check},
-        {"compile", compile}, {"find_rule", find_rule}, {"find_word", find_word},
+        {"compile", compile}, {"find_rule", find_rule}, {"find_word", find_word}, {"read_sheet", read_sheet},
     };
     for (size_t i = 0; i < 256; i++) {
         uint8_t *r = rules + 21 * i;
