@@ -15,10 +15,14 @@ pub const KEY_SIZE: usize = 13;
 pub const RULE_SIZE: usize = 21;
 // The most rules of a list.
 pub const RULE_LIMIT: usize = 256;
+// Bytes of the longest list.
+pub const LIST_BYTES: usize = RULE_SIZE * RULE_LIMIT;
 // Bytes of a table record: value, mask, rule number, action.
 pub const RECORD_SIZE: usize = 28;
 // The most words of a table.
 pub const WORD_LIMIT: usize = 2048;
+// Bytes of the largest table.
+pub const TABLE_BYTES: usize = RECORD_SIZE * WORD_LIMIT;
 // Where a record's mask, rule number and action stand.
 pub const MASK_AT: usize = 13;
 

@@ -2,7 +2,7 @@
 use mathlib.Core.Bool.{Bool, true, false, _&&_, not}
 use mathlib.Core.List.{List, [], _∷_, _++_}
 use mathlib.Core.Path.{_≡_, refl, sym, ap, subst, _∙_}
-use Prim.Native.Nat.{ℕ, _+_, _*_, _/_, _%_, _^_, _≤_, _<_}
+use Prim.Native.Nat.{ℕ, _+_, _/_, _%_, _^_, _≤_, _<_}
 use native.Mathlib.Omega.{arith}
 use lib.Dec.{leb}
 use borrow.Author.Tests.{le-leb, leb-true, not-true}
@@ -10,7 +10,7 @@ use Rattle.bits.specs.Choice.{if_then_else_}
 use Rattle.rules.specs.Faults.{beyond?}
 use Rattle.sheets.specs.Cuts.{after, before, times}
 use Rattle.sheets.specs.Numbers.{numberOf}
-use Rattle.sheets.specs.Parts.{addressOf, badAddress, dot, joined, slash}
+use Rattle.sheets.specs.Parts.{addressOf, badAddress, bitsOf, dot, joined, slash}
 use Rattle.sheets.specs.Text.{addressText}
 use Rattle.sheets.specs.declared.parts.Address.{Address}
 use Rattle.texts.specs.Decimal.{decimal}
@@ -19,9 +19,6 @@ use Rattle.sheets.proofs.FieldText.{both, number-parted, some-number}
 use Rattle.sheets.proofs.Marks.{after-mark, before-mark, times-past}
 
 -- ---- four numbers and a length
-
-abbrev bitsOf : ℕ → ℕ → ℕ → ℕ → ℕ
-bitsOf a b c d = ((a * 256 + b) * 256 + c) * 256 + d
 
 abbrev goodAddress : ℕ → ℕ → Address
 goodAddress bits len = record { good = true; bits = bits; len = len }

@@ -2,14 +2,11 @@
 -- Assumes nothing.
 use mathlib.Core.Bool.{true}
 use mathlib.Core.Path.{_≡_}
-use Prim.Native.Nat.{ℕ, _+_, _-_, _*_, _^_, _%_, _≤_, _<_}
+use Prim.Native.Nat.{ℕ, _-_, _^_, _%_, _≤_, _<_}
 use borrow.Author.Tests.{le-leb, lt-leb, eq-eqb, ne-eqb}
-use Rattle.sheets.specs.Parts.{badAddress, badPorts, joined, paired}
+use Rattle.sheets.specs.Parts.{badAddress, badPorts, bitsOf, joined, paired}
 
 -- ---- addresses
-
-abbrev bitsOf : ℕ → ℕ → ℕ → ℕ → ℕ
-bitsOf a b c d = ((a * 256 + b) * 256 + c) * 256 + d
 
 module _ (a b c d len : ℕ) where
   pub joined-first : 255 < a → badAddress ≡ joined a b c d len

@@ -39,10 +39,14 @@ protocolOf s =
 abbrev pub badAddress : Address
 badAddress = record { good = false; bits = 0; len = 0 }
 
+-- four numbers of a byte each as one
+abbrev pub bitsOf : ℕ → ℕ → ℕ → ℕ → ℕ
+bitsOf a b c d = ((a * 256 + b) * 256 + c) * 256 + d
+
 -- an address of four numbers and its length
 unfoldable pub joined : ℕ → ℕ → ℕ → ℕ → ℕ → Address
 joined a b c d len =
-    let bits = ((a * 256 + b) * 256 + c) * 256 + d in
+    let bits = bitsOf a b c d in
     if leb a 255 && (leb b 255 && (leb c 255 && (leb d 255 && (leb len 32 && not (beyond? bits len)))))
     then record { good = true; bits = bits; len = len }
     else badAddress

@@ -10,6 +10,7 @@ use crate::cuts::cut;
 use crate::rows::Row;
 use crate::rows::Rows;
 use crate::rows::read_row;
+use records::LIST_BYTES;
 use records::RULE_LIMIT;
 use records::RULE_SIZE;
 
@@ -65,7 +66,7 @@ fn read_rows(text: &[u8], held: &mut [u8]) -> Rows
     let mut i: u32 = 0;
     let mut from: usize = 0;
     let mut at: usize = 0;
-    while at < RULE_SIZE * RULE_LIMIT {
+    while at < LIST_BYTES {
         if from == text.len() {
             return Rows::Good(i);
         }
@@ -100,7 +101,7 @@ pub fn read(text: &[u8], rules: &mut [u8]) -> Sheet
     if many(text) {
         return Sheet::Many;
     }
-    let mut held = [0u8; 5376];
+    let mut held = [0u8; LIST_BYTES];
     match read_rows(text, &mut held) {
         Rows::Bad(line, field) => Sheet::Bad(line, field),
         Rows::Good(n) => {

@@ -11,7 +11,7 @@ use Rattle.sheetwords.proofs.print_words.Statement.{statement}
 use Rattle.sheetwords.proofs.print_words.Tie as tie
 
 abbrev Inv-loop : tie.InvT-loop
-Inv-loop table k out₀ at₀ from₀ i₀ out at from i = ((length out ≡ 65536) × (at ≤ 65536)) × ((from ≡ 28 * i) × (i ≤ k))
+Inv-loop table k out₀ at₀ from₀ i₀ out at from i = ((length out ≡ 65536) × (at ≤ 65536)) × ((from ≡ recordSize * i) × (i ≤ k))
 
 abbrev μ-loop : tie.MeasureT-loop
 μ-loop table k out₀ at₀ from₀ i₀ out at from i = k - i

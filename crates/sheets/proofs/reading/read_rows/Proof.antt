@@ -17,9 +17,6 @@ abbrev μ-loop : tie.MeasureT-loop
 loop-holds : tie.Need-loop-holds Inv-loop μ-loop
 loop-holds c = lines-start _ _ (omega arith)
 
-mul-loop : tie.Need-mul-loop Inv-loop μ-loop
-mul-loop c = omega arith
-
 same-length : tie.Need-same-length Inv-loop μ-loop
 same-length c = c .before .before .loop .inv .same
 
@@ -103,7 +100,6 @@ read-rows-spec =
     Inv-loop
     μ-loop
     loop-holds
-    mul-loop
     same-length
     returns
     sub-rest
