@@ -1,7 +1,7 @@
 //! The library against the plain version, same machine, same input, both optimised, in interleaved rounds. Each row is the
 //! median of its rounds; the last column is the library's time divided by the plain version's.
 
-use crate::{plain, random::Random};
+use crate::{lean, plain, random::Random};
 use ashkavorz::raw;
 use std::{hint::black_box, time::Instant};
 
@@ -69,6 +69,26 @@ fn foreign() -> Vec<u16> {
     out
 }
 
+/// One call lists the 30 words of 1..65534.
+fn listing(list: impl Fn(u32, u32, u32, &mut [u16]) -> raw::Answer) -> impl FnMut(usize) {
+    let mut out = [0u16; 60];
+    move |_| {
+        black_box(list(black_box(16), black_box(1), black_box(65_534), &mut out));
+    }
+}
+
+/// One call is one step over 1..65534, from the state that the step before it gave; an ended walk starts again.
+fn stepping(step: impl Fn(raw::Walk) -> raw::Step) -> impl FnMut(usize) {
+    let start = raw::Walk { width: 16, next: 1, last: 65_534, ended: 0 };
+    let mut walk = start;
+    move |_| {
+        walk = step(black_box(walk)).walk;
+        if walk.ended != 0 {
+            walk = start;
+        }
+    }
+}
+
 pub fn run() {
     let mut random = Random::new(1);
     let ends: Vec<(u32, u32)> = (0..4096)
@@ -83,25 +103,43 @@ pub fn run() {
         "count, n = 16, random intervals",
         ROUNDS,
         200_000,
-        &mut |i| { black_box(raw::count(16, ends[i % 4096].0, ends[i % 4096].1)); },
-        &mut |i| { black_box(plain::count(16, ends[i % 4096].0, ends[i % 4096].1)); },
+        &mut |i| { black_box(raw::count(black_box(16), ends[i % 4096].0, ends[i % 4096].1)); },
+        &mut |i| { black_box(plain::count(black_box(16), ends[i % 4096].0, ends[i % 4096].1)); },
     );
-    let (mut a, mut b) = ([0u16; 60], [0u16; 60]);
     row(
         "list, n = 16, 1..65534, 30 words",
         ROUNDS,
         100_000,
-        &mut |_| { black_box(raw::list(16, 1, 65_534, &mut a)); },
-        &mut |_| { black_box(plain::list(16, 1, 65_534, &mut b)); },
+        &mut listing(raw::list),
+        &mut listing(plain::list),
     );
-    let start = raw::Walk { width: 16, next: 1, last: 65_534, ended: 0 };
-    let (mut w, mut v) = (start, start);
+    row(
+        "list, the same, against trailing zeros by hand",
+        ROUNDS,
+        100_000,
+        &mut listing(raw::list),
+        &mut listing(lean::list),
+    );
     row(
         "step, n = 16, over 1..65534",
         ROUNDS,
         1_000_000,
-        &mut |_| { w = raw::step(black_box(w)).walk; if w.ended != 0 { w = start; } },
-        &mut |_| { v = plain::step(black_box(v)).walk; if v.ended != 0 { v = start; } },
+        &mut stepping(raw::step),
+        &mut stepping(plain::step),
+    );
+    row(
+        "step, the same, against trailing zeros by hand behind the same C interface",
+        ROUNDS,
+        1_000_000,
+        &mut stepping(raw::step),
+        &mut stepping(|w| lean::step_from_c(w)),
+    );
+    row(
+        "step, the same, against trailing zeros by hand, called as Rust calls",
+        ROUNDS,
+        1_000_000,
+        &mut stepping(raw::step),
+        &mut stepping(lean::step),
     );
     let own: Vec<u16> = plain::words(16, 1, 65_534).iter().flat_map(|w| [w.0, w.1]).collect();
     row(

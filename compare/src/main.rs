@@ -9,6 +9,7 @@
 mod bench;
 mod calls;
 mod cases;
+mod lean;
 mod lists;
 mod papers;
 mod plain;

@@ -1,5 +1,5 @@
 -- The highest bit at which two numbers differ: it is the top bit of their exclusive or. Assumes nothing.
-use mathlib.Core.Path.{_≡_, sym, ap, _∙_, subst}
+use mathlib.Core.Path.{_≡_, sym, ap, _∙_}
 use mathlib.Core.Logic.{_⊎_, inl, inr}
 use Prim.Native.Nat.{ℕ, zero, suc, _+_, _-_, _/_, _%_, _^_, _≤_, _<_}
 use native.Mathlib.Omega.{arith}
@@ -10,6 +10,7 @@ use lib.Bits.{bitXor, xor-add-and, and-le-l, and-le-r, xor-self, xor-shr, xor-lt
 use lib.Count.{leading-top, leadingZeros}
 use borrow.Author.Tests.{eq-eqb, ne-eqb}
 use Rattle.bits.specs.Digits.{bit, topDiffer, Differ, Apart}
+use Rattle.bits.proofs.Ends.{Top}
 use Rattle.bits.proofs.Orders.{le-or-lt}
 
 xor-eq : (a b : ℕ) → bitXor a b ≡ 0 → a ≡ b
@@ -31,36 +32,22 @@ top-differs a b j l h =
           omega (arith, div-lt-iff-lt-mul (pow-pos j) .0 y);
     }
 
--- two different numbers of n bits differ at some highest bit, and the leading zeros of their exclusive or say which
-pub record Found (n a b j : ℕ) : Type 0 where
-  pub place : leadingZeros n (bitXor a b) + suc j ≡ n
-  pub size : 2 ^ j ≤ bitXor a b
-  pub differ : Differ a b j
-
-pub found : (n a b : ℕ) → a < b → b < 2 ^ n → (j : ℕ) × Found n a b j
-found n a b h f =
-    let z : 0 < bitXor a b = go (le-or-lt (bitXor a b) 0) in
-    let t = leading-top n (bitXor a b) z (xor-lt n a b (omega arith) f) in
-    (t .0, record { place = t .1; size = t .2; differ = top-differs a b (t .0) (t .2) (t .3) })
+pub xor-some : (a b : ℕ) → a < b → 0 < bitXor a b
+xor-some a b h = go (le-or-lt (bitXor a b) 0)
   where
     go : (bitXor a b ≤ 0) ⊎ (0 < bitXor a b) → 0 < bitXor a b
     go (inl e) = omega (arith, xor-eq a b (omega arith))
     go (inr e) = e
 
--- the same at 32 bits, of numbers of 16
-pub apart-law : (a b : ℕ) → a < b → b < 2 ^ 16 → Apart a b (31 - leadingZeros 32 (bitXor a b))
-apart-law a b h f =
-    let t = found 32 a b h (omega arith) in
-    let j = t .0 in
-    let e : j ≡ 31 - leadingZeros 32 (bitXor a b) = omega (arith, t .1 .place) in
-    subst (λ (y : ℕ). Apart a b y) e (record { small = less j (t .1 .size) (le-or-lt 16 j); differ = t .1 .differ })
-  where
-    less : (j : ℕ) → 2 ^ j ≤ bitXor a b → (16 ≤ j) ⊎ (j < 16) → j < 16
-    less j p (inl g) = omega (arith, pow-mono g, xor-lt 16 a b (omega arith) f)
-    less j p (inr g) = g
+-- two different numbers of n bits differ at some highest bit, and the leading zeros of their exclusive or say which
+pub record Found (n a b j : ℕ) : Type 0 where
+  pub place : leadingZeros n (bitXor a b) + suc j ≡ n
+  pub differ : Differ a b j
 
-pub leading-most : (a b : ℕ) → a < b → b < 2 ^ 16 → leadingZeros 32 (bitXor a b) ≤ 31
-leading-most a b h f = omega (arith, found 32 a b h (omega arith) .1 .place)
+pub found : (n a b : ℕ) → a < b → b < 2 ^ n → (j : ℕ) × Found n a b j
+found n a b h f =
+    let t = leading-top n (bitXor a b) (xor-some a b h) (xor-lt n a b (omega arith) f) in
+    (t .0, record { place = t .1; differ = top-differs a b (t .0) (t .2) (t .3) })
 
 -- that bit is one of the n digits of the larger number
 pub differ-lt : (n a b s : ℕ) → a < b → b < 2 ^ n → Differ a b s → s < n
@@ -71,6 +58,12 @@ differ-lt n a b s h f d = go (le-or-lt n s)
     go (inl g) =
         let l = pow-mono g in
         absurd (d .here (ap (λ (x : ℕ). x % 2) (div-eq-of-lt (omega arith) ∙ sym (div-eq-of-lt (omega arith)))))
+
+-- the same of numbers of 16 bits, from the exclusive or's highest 1
+pub apart-law : (a b j : ℕ) → a < b → b < 2 ^ 16 → Top (bitXor a b) j → Apart a b j
+apart-law a b j h f t =
+    let d = top-differs a b j (t .0) (t .1) in
+    record { small = differ-lt 16 a b j h f d; differ = d }
 
 same-above : (a b s d : ℕ) → a / 2 ^ suc s ≡ b / 2 ^ suc s → a / 2 ^ (suc s + d) ≡ b / 2 ^ (suc s + d)
 same-above a b s d e = sym (shr-shr a (suc s) d) ∙ ap (λ (x : ℕ). x / 2 ^ d) e ∙ shr-shr b (suc s) d

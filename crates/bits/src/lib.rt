@@ -1,7 +1,7 @@
-// Powers of two, prefix masks, and the two questions about binary digits that the count of document 01 asks.
+// Powers of two, prefix masks, and the questions about binary digits that document 01's count and its largest blocks ask.
 // Everything here serves other crates, so a function may require what its callers have tested.
 ghost use mathlib.Core.Path.{_≡_};
-ghost use Prim.Native.Nat.{_≤_, _<_};
+ghost use Prim.Native.Nat.{suc, _%_, _^_, _≤_, _<_};
 ghost use Rattle.bits.specs.Digits.{Apart, Ones};
 ghost use Rattle.bits.specs.Masks.{Power, maskOf};
 
@@ -51,10 +51,25 @@ pub fn ones_below(x: u32, s: u32) -> u32
     u32::count_ones(x % power(s))
 }
 
+// How many of the lowest bits of x are 0 before its first 1: 32 where x is 0.
+pub fn low_zeros(x: u32) -> u32
+    ensures { λ r. ⌜ (r ≤ 32) × (x % 2 ^ r ≡ 0) × (r < 32 → x % 2 ^ suc r ≡ 0 → ⊥) ⌝ }
+{
+    u32::trailing_zeros(x)
+}
+
+// The highest bit of x that is 1.
+pub fn highest(x: u32) -> u32
+    requires { ⌜ 0 < x ⌝ }
+    ensures { λ r. ⌜ (2 ^ r ≤ x) × (x < 2 ^ suc r) ⌝ }
+{
+    31 - u32::leading_zeros(x)
+}
+
 // The highest bit at which a and b differ.
 pub fn highest_apart(a: u32, b: u32) -> u32
     requires { ⌜ (a < b) × (b < 65536) ⌝ }
     ensures { λ r. ⌜ Apart a b r ⌝ }
 {
-    31 - u32::leading_zeros(a ^ b)
+    highest(a ^ b)
 }

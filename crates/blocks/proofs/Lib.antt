@@ -2,6 +2,7 @@ pub mod Tiles
 pub mod Multiples
 pub mod Members
 pub mod Lowest
+pub mod Leaner
 pub mod Lengths
 pub mod Counts
 pub mod Agreement

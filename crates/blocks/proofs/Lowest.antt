@@ -3,23 +3,18 @@ use mathlib.Core.Path.{_≡_, refl, sym, ap, ap₂, _∙_, subst}
 use mathlib.Core.List.{List, _∷_, _++_}
 use mathlib.Core.Bool.{Bool, true, false, _&&_, and-false}
 use mathlib.Core.Logic.{_⊎_, inl, inr}
-use Prim.Native.Nat.{ℕ, zero, suc, _+_, _-_, _*_, _%_, _^_, _≤_, _<_, zero-le}
+use Prim.Native.Nat.{ℕ, zero, suc, _+_, _*_, _%_, _^_, _≤_, _<_, zero-le}
 use native.Mathlib.Omega.{arith}
 use native.Mathlib.Nat.{le-refl, mul-mod-left, zero-mul}
 use lib.Dec.{leb, eqb}
 use lib.Pow.{pow-pos}
 use borrow.Author.Tests.{le-leb, lt-leb, eq-eqb, ne-eqb, leb-true}
 use Rattle.bits.proofs.Orders.{le-or-lt}
-use Rattle.bits.specs.Masks.{Power}
 use Rattle.blocks.specs.Blocks.{Block, block, tiles, Inside}
 use Rattle.blocks.specs.Lowest.{reaches?, freeOf}
 use Rattle.blocks.proofs.Tiles.{inside-dec, miss-low, whole, single, split, half-start, half-mid, no-between}
 
 -- ---- the test of one length
-
-and-left : (a b : Bool) → (a && b) ≡ true → a ≡ true
-and-left true b e = refl
-and-left false b e = e
 
 and-right : (a b : Bool) → (a && b) ≡ true → b ≡ true
 and-right true b e = e
@@ -27,13 +22,13 @@ and-right false true e = refl
 and-right false false e = e
 
 module _ (next end k : ℕ) where
-  reaches-true : next % 2 ^ k ≡ 0 → next + 2 ^ k ≤ end → reaches? next end k ≡ true
+  pub reaches-true : next % 2 ^ k ≡ 0 → next + 2 ^ k ≤ end → reaches? next end k ≡ true
   reaches-true p q = rw (eq-eqb (next % 2 ^ k) 0 p) (le-leb (next + 2 ^ k) end q)
 
   reaches-end : reaches? next end k ≡ true → next + 2 ^ k ≤ end
   reaches-end e = leb-true (next + 2 ^ k) end (and-right (eqb (next % 2 ^ k) 0) (leb (next + 2 ^ k) end) e)
 
-  reaches-false : (next % 2 ^ k ≡ 0 → next + 2 ^ k ≤ end → ⊥) → reaches? next end k ≡ false
+  pub reaches-false : (next % 2 ^ k ≡ 0 → next + 2 ^ k ≤ end → ⊥) → reaches? next end k ≡ false
   reaches-false h = go (le-or-lt (next + 2 ^ k) end) (le-or-lt (next % 2 ^ k) 0)
     where
       go : (next + 2 ^ k ≤ end) ⊎ (end < next + 2 ^ k) → (next % 2 ^ k ≤ 0) ⊎ (0 < next % 2 ^ k) → reaches? next end k ≡ false
@@ -41,29 +36,19 @@ module _ (next end k : ℕ) where
       go (inl q) (inl p) = absurd (h (omega arith) q)
       go (inl q) (inr p) = rw (ne-eqb (next % 2 ^ k) 0 (λ (e : next % 2 ^ k ≡ 0). omega arith))
 
-  -- as the code tests it, with the power worked out
-  pub reaches-yes : (s : ℕ) → Power k s → next % s ≡ 0 → leb (next + s) end ≡ reaches? next end k
-  reaches-yes s p m = rw (p .is, eq-eqb (next % 2 ^ k) 0 (rw (p .is) at m))
-
-  pub reaches-no : (s : ℕ) → Power k s → (next % s ≡ 0 → ⊥) → false ≡ reaches? next end k
-  reaches-no s p m = rw (ne-eqb (next % 2 ^ k) 0 (rw (p .is) at m))
-
 -- ---- the search from the widest down
 
-pub free-at : (k next end : ℕ) → 0 < k → reaches? next end k ≡ true → freeOf k next end ≡ k
+pub free-stop : (next end : ℕ) → freeOf zero next end ≡ 0
 unfolding freeOf
-free-at zero next end p e = omega arith
-free-at (suc k) next end p e = rw (e, freeOf)
+free-stop next end = refl
 
-pub free-down : (k next end : ℕ) → 0 < k → reaches? next end k ≡ false → freeOf k next end ≡ freeOf (k - 1) next end
+pub free-at : (k next end : ℕ) → reaches? next end (suc k) ≡ true → freeOf (suc k) next end ≡ suc k
 unfolding freeOf
-free-down zero next end p e = refl
-free-down (suc k) next end p e = let s : k ≡ suc k - 1 = omega arith in rw (e, freeOf) (ap (λ (x : ℕ). freeOf x next end) s)
+free-at k next end e = rw (e, freeOf)
 
-pub free-stop : (k next end : ℕ) → k ≤ 0 → freeOf k next end ≡ 0
+pub free-down : (k next end : ℕ) → reaches? next end (suc k) ≡ false → freeOf (suc k) next end ≡ freeOf k next end
 unfolding freeOf
-free-stop zero next end p = refl
-free-stop (suc k) next end p = omega arith
+free-down k next end e = rw (e, freeOf)
 
 pub free-le : (k next end : ℕ) → freeOf k next end ≤ k
 unfolding freeOf
@@ -112,7 +97,7 @@ module _ (k v low end q : ℕ) (e : v ≡ q * 2 ^ suc k) (p : v ≤ low) (h : lo
   first-whole i =
       let s : low ≡ v = omega (arith, i .low-in) in
       let m : low % 2 ^ suc k ≡ 0 = ap (λ (x : ℕ). x % 2 ^ suc k) (s ∙ e) ∙ mul-mod-left q (2 ^ suc k) in
-      subst (λ (j : ℕ). First (suc k) v low end j) (sym (free-at (suc k) low end (omega arith) (reaches-true low end (suc k) m (omega (arith, i .end-in))))) (record {
+      subst (λ (j : ℕ). First (suc k) v low end j) (sym (free-at k low end (reaches-true low end (suc k) m (omega (arith, i .end-in))))) (record {
         tiled = whole (suc k) v low end i
             ∙ ap₂ (λ (x : ℕ) (y : List Block). block x (suc k) ∷ y) (sym s) (sym (miss-low (suc k) v (low + 2 ^ suc k) end (omega arith)));
         within = omega arith;
@@ -120,11 +105,9 @@ module _ (k v low end q : ℕ) (e : v ≡ q * 2 ^ suc k) (p : v ≤ low) (h : lo
 
   same-free : (Inside low end v (suc k) → ⊥) → freeOf (suc k) low end ≡ freeOf k low end
   same-free i =
-      let f : reaches? low end (suc k) ≡ false = reaches-false low end (suc k) (λ (m : low % 2 ^ suc k ≡ 0) (f : low + 2 ^ suc k ≤ end).
+      free-down k low end (reaches-false low end (suc k) (λ (m : low % 2 ^ suc k ≡ 0) (f : low + 2 ^ suc k ≤ end).
       let s : low ≡ v = no-between q (2 ^ suc k) v low e m p h in
-      i (record { low-in = omega arith; end-in = omega arith })) in
-      let s : suc k - 1 ≡ k = omega arith in
-      free-down (suc k) low end (omega arith) f ∙ ap (λ (x : ℕ). freeOf x low end) s
+      i (record { low-in = omega arith; end-in = omega arith })))
 
   first-left : (Inside low end v (suc k) → ⊥) → (j : ℕ) → First k v low end j → First (suc k) v low end j
   first-left i j a = record {
@@ -148,7 +131,7 @@ module _ (k v low end q : ℕ) (e : v ≡ q * 2 ^ suc k) (p : v ≤ low) (h : lo
 first : (k v low end q : ℕ) → v ≡ q * 2 ^ k → v ≤ low → low < v + 2 ^ k → low < end → First k v low end (freeOf k low end)
 first zero v low end q e p h l =
     let s : v ≡ low = omega arith in
-    subst (λ (j : ℕ). First zero v low end j) (sym (free-stop zero low end (omega arith))) (record {
+    subst (λ (j : ℕ). First zero v low end j) (sym (free-stop low end)) (record {
       tiled = whole zero v low end (record { low-in = omega arith; end-in = omega arith })
           ∙ ap₂ (λ (x : ℕ) (y : List Block). block x zero ∷ y) s (sym (miss-low zero v (low + 1) end (omega arith)));
       within = omega arith;

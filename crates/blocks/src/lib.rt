@@ -1,10 +1,10 @@
 // Aligned blocks of an interval (document 01, "Intervals and words"): the lowest largest one, and how many there are.
 // The theory of blocks and ternary words stands beside it, in specs/ and proofs/, for every width.
 ghost use mathlib.Core.Path.{_≡_};
-ghost use Prim.Native.Nat.{_≤_};
+ghost use Prim.Native.Nat.{_≤_, min};
 ghost use Rattle.blocks.specs.Blocks.{Closed};
 ghost use Rattle.blocks.specs.Counting.{countOf};
-ghost use Rattle.blocks.specs.Lowest.{Free, reaches?};
+ghost use Rattle.blocks.specs.Lowest.{Free};
 
 // A ternary word: a mask bit of 1 means that the bit counts, 0 is a don't care.
 pub struct Word {
@@ -12,33 +12,23 @@ pub struct Word {
     pub mask: u16,
 }
 
-// The block of k free bits from next on is aligned and ends by end.
-fn reaches(next: u32, end: u32, k: u32) -> bool
-    requires { ⌜ (k ≤ 16) × (next ≤ 65536) ⌝ }
-    ensures { λ r. ⌜ r ≡ reaches? next end k ⌝ }
+// The lesser of two numbers.
+fn lesser(a: u32, b: u32) -> u32
+    ensures { λ r. ⌜ r ≡ min a b ⌝ }
 {
-    let size = bits::power(k);
-    if next % size == 0 {
-        next + size <= end
-    } else {
-        false
-    }
+    if a < b { a } else { b }
 }
 
 // How many free bits the lowest largest block of next .. end - 1 has: the most, n at most, of a block that starts at next,
-// is aligned and ends by end.
+// is aligned and ends by end. The zeros that next ends in say how many are aligned, and the room that is left how many fit.
 pub fn free_bits(n: u32, next: u32, end: u32) -> u32
     requires { ⌜ (n ≤ 16) × (next ≤ 65536) ⌝ }
     ensures { λ r. ⌜ Free n next end r ⌝ }
 {
-    let mut k = n;
-    while 0 < k {
-        if reaches(next, end, k) {
-            return k;
-        }
-        k -= 1;
+    if end <= next {
+        return 0;
     }
-    0
+    lesser(lesser(n, bits::low_zeros(next)), bits::highest(end - next))
 }
 
 // How many words a closed interval has (source document 000, theorem 3.2, with document 01's correction).

@@ -1,61 +1,43 @@
--- `blocks::free_bits` meets its contract: going down from n, the answer stays that of the lengths that are left.
+-- `blocks::free_bits` meets its contract: where there is room the least of three is the answer, by `free-law`.
 -- Assumes nothing.
-use mathlib.Core.Path.{_≡_, refl, sym, _∙_}
-use Prim.Native.Nat.{_≤_}
-use native.Mathlib.Nat.{le-refl}
-use native.Mathlib.Omega.{arith}
 use borrow.Author.Needs.{needs}
-use Rattle.blocks.specs.Lowest.{freeOf}
-use Rattle.blocks.proofs.Lowest.{free-at, free-down, free-stop}
+use native.Mathlib.Omega.{arith}
+use Rattle.blocks.proofs.Leaner.{free-law, free-none}
 use Rattle.blocks.proofs.free_bits.Statement.{statement}
 use Rattle.blocks.proofs.free_bits.Tie as tie
 
-abbrev Inv-loop : tie.InvT-loop
-Inv-loop n next end k₀ k = (k ≤ n) × (freeOf n next end ≡ freeOf k next end)
+returns : tie.Need-returns
+returns c = free-none _ _ _ (omega arith)
 
-abbrev μ-loop : tie.MeasureT-loop
-μ-loop n next end k₀ k = k
+low-zeros-requires : tie.Need-low-zeros-requires
+low-zeros-requires c κs = search needs
 
-loop-holds : tie.Need-loop-holds Inv-loop μ-loop
-loop-holds c = (le-refl _, refl)
+lesser-requires : tie.Need-lesser-requires
+lesser-requires c κs = search needs
 
-reaches-requires : tie.Need-reaches-requires Inv-loop μ-loop
-reaches-requires c κs = search needs
+sub-highest : tie.Need-sub-highest
+sub-highest c = search needs
 
-returns : tie.Need-returns Inv-loop μ-loop
-returns c =
-    let l = c .before .before .before .loop in
-    record {
-      is = sym (l .inv .1 ∙ free-at (l .k) _ _ (omega arith) (sym (c .before .reaches .ensures) ∙ c .if1 .taken));
-      most = omega arith;
-    }
+highest-requires : tie.Need-highest-requires
+highest-requires c κs = search needs
 
-sub-k : tie.Need-sub-k Inv-loop μ-loop
-sub-k c = search needs
+lesser-requires-2 : tie.Need-lesser-requires-2
+lesser-requires-2 c κs = search needs
 
-loop-less : tie.Need-loop-less Inv-loop μ-loop
-loop-less c = search needs
-
-loop-again : tie.Need-loop-again Inv-loop μ-loop
-loop-again c =
-    let l = c .before .before .before .loop in
-    (omega arith, l .inv .1 ∙ free-down (l .k) _ _ (omega arith) (sym (c .before .reaches .ensures) ∙ c .if1 .left))
-
-returns-2 : tie.Need-returns-2 Inv-loop μ-loop
+returns-2 : tie.Need-returns-2
 returns-2 c =
-    let l = c .before .loop in
-    record { is = sym (l .inv .1 ∙ free-stop (l .k) _ _ (omega arith)); most = omega arith }
+    let b = c .before .before in
+    free-law _ _ _ _ (omega arith) (b .before .low-zeros .ensures) (c .before .highest .ensures) _ _ _ (omega arith)
+    (b .lesser .ensures) (c .lesser2 .ensures)
 
 pub free-bits-spec : {M : Type 1} → statement M
 free-bits-spec =
     tie.close
     (tie.spec
-    Inv-loop
-    μ-loop
-    loop-holds
-    reaches-requires
     returns
-    sub-k
-    loop-less
-    loop-again
+    low-zeros-requires
+    lesser-requires
+    sub-highest
+    highest-requires
+    lesser-requires-2
     returns-2)
