@@ -11,4 +11,6 @@ for row in sys.stdin:
     if words != expected:
         sys.exit(f"lists.py: {low}..{high}: the library lists {words}, ipaddress {expected}")
     compared += 1
+if compared < 20_000:
+    sys.exit(f"lists.py: only {compared} lists came")
 print(f"{compared} lists agree with ipaddress")

@@ -3,7 +3,8 @@
  *
  * Every function takes any numbers and any bytes, ends, and answers as the table below says. None keeps a pointer, allocates,
  * or has state of its own, so calls may run at the same time on memory that is not shared. A refused call changes no byte of
- * the memory it was lent. A pointer may be anything where its length is 0.
+ * the memory it was lent. A pointer may be anything where its length is 0; else it points to that many numbers, aligned as
+ * their type is, and memory that a call may write (out, table, rules of read_sheet) overlaps nothing else it is lent.
  *
  * Answers. `no` is 0 where the call is done; the values a, b, c, d are then the call's own, as each declaration says. Else `no`
  * is the refusal's number, and a and b are what is returned with it. What is not used is 0. Where several refusals apply, the
@@ -50,6 +51,15 @@
 #ifdef __cplusplus
 extern "C" {
 #endif
+
+/* The sizes and limits above, and the numbers of a list that is always large enough. */
+#define ASHKAVORZ_RULE_BYTES 21
+#define ASHKAVORZ_RULES_MOST 256
+#define ASHKAVORZ_HEADER_BYTES 13
+#define ASHKAVORZ_RECORD_BYTES 28
+#define ASHKAVORZ_WORDS_MOST 2048
+#define ASHKAVORZ_SHEET_BYTES_MOST 65536
+#define ASHKAVORZ_LIST_NUMBERS 60
 
 struct ashkavorz_answer {
     uint32_t no, a, b, c, d;

@@ -1,7 +1,7 @@
 //! The library against the plain version, same machine, same input, both optimised, in interleaved rounds. Each row is the
 //! median of its rounds; the last column is the library's time divided by the plain version's.
 
-use crate::{lean, plain, random::Random};
+use crate::{lean, plain, random::Random, sheet};
 use ashkavorz::raw;
 use std::{hint::black_box, time::Instant};
 
@@ -100,6 +100,13 @@ pub fn run() {
     println!("| call | library, ns | plain Rust, ns | ratio |");
     println!("|---|---|---|---|");
     row(
+        "close, n = 16, random bounds",
+        ROUNDS,
+        200_000,
+        &mut |i| { black_box(raw::close(black_box(16), ends[i % 4096].0 as i32 - 1, ends[i % 4096].1 as i32 + 1)); },
+        &mut |i| { black_box(plain::close(black_box(16), ends[i % 4096].0 as i32 - 1, ends[i % 4096].1 as i32 + 1)); },
+    );
+    row(
         "count, n = 16, random intervals",
         ROUNDS,
         200_000,
@@ -176,10 +183,20 @@ pub fn run() {
         &mut |i| { black_box(plain::find_rule(&rules, &headers[i])); },
     );
     row(
-        "find_word, 2,048 records, a million headers",
+        "find_word, 2,048 records, 100,000 headers ten times",
         10,
         100_000,
         &mut |i| { black_box(raw::find_word(&table, 2_048, &headers[i])); },
         &mut |i| { black_box(plain::find_word(&other, 2_048, &headers[i])); },
+    );
+    let text = "6\t10.20.0.0/24\t10.20.1.0/28\t1024-65535\t502-503\tpermit-log\n".repeat(plain::RULES).into_bytes();
+    let mut records = vec![0u8; plain::RULE * plain::RULES];
+    let mut others = records.clone();
+    row(
+        "read_sheet, 256 lines",
+        ROUNDS,
+        200,
+        &mut |_| { black_box(raw::read_sheet(black_box(&text), &mut records)); },
+        &mut |_| { black_box(sheet::read(black_box(&text), &mut others)); },
     );
 }

@@ -1,8 +1,9 @@
 //! Every call of libtablet.a against the plain version, on many inputs: small and large, valid and damaged. Lent memory has
-//! guard values around it and is compared before and after; every refusal has to be reached.
+//! guard values around it and is compared before and after; every refusal has to be reached. What the safe wrapper makes of each
+//! answer is compared too, and the hand-written list and step that the benchmark measures.
 
-use crate::{plain, random::Random};
-use ashkavorz::raw;
+use crate::{lean, plain, random::Random};
+use ashkavorz::{raw, Checked, Refusal};
 use std::collections::BTreeMap;
 
 /// How often each answer of each call was seen, by refusal number; 0 is an answer that was done.
@@ -56,16 +57,28 @@ pub fn same<T: PartialEq + std::fmt::Debug>(what: impl FnOnce() -> String, ours:
     }
 }
 
+/// An answer as the wrapper gives it: what was done, or the refusal.
+fn wrapped<T>(r: raw::Answer, what: impl FnOnce() -> T) -> Result<T, Refusal> {
+    if r.no == 0 { Ok(what()) } else { Err(Refusal { no: r.no, a: r.a, b: r.b }) }
+}
+
+/// The same where what was done is a number.
+pub fn number(r: raw::Answer) -> Result<u32, Refusal> {
+    wrapped(r, || r.a)
+}
+
 fn close(n: u32, a: i32, b: i32, t: &mut Tally) -> Outcome {
     let r = raw::close(n, a, b);
     t.saw("close", r.no);
-    same(|| format!("close({n}, {a}, {b})"), r, plain::close(n, a, b))
+    same(|| format!("close({n}, {a}, {b})"), r, plain::close(n, a, b))?;
+    same(|| format!("the wrapper's close({n}, {a}, {b})"), ashkavorz::close(n, a, b), wrapped(r, || (r.a, r.b)))
 }
 
 fn count(n: u32, low: u32, high: u32, t: &mut Tally) -> Outcome {
     let r = raw::count(n, low, high);
     t.saw("count", r.no);
-    same(|| format!("count({n}, {low}, {high})"), r, plain::count(n, low, high))
+    same(|| format!("count({n}, {low}, {high})"), r, plain::count(n, low, high))?;
+    same(|| format!("the wrapper's count({n}, {low}, {high})"), ashkavorz::count(n, low, high), number(r))
 }
 
 const GUARD: usize = 4;
@@ -76,13 +89,18 @@ fn list(n: u32, low: u32, high: u32, room: usize, fill: u16, t: &mut Tally) -> O
     let r = raw::list(n, low, high, &mut ours[GUARD..GUARD + room]);
     t.saw("list", r.no);
     same(|| format!("list({n}, {low}, {high}, {room})"), r, plain::list(n, low, high, &mut theirs[GUARD..GUARD + room]))?;
-    same(|| format!("list({n}, {low}, {high}, {room}), the numbers"), ours, theirs)
+    same(|| format!("list({n}, {low}, {high}, {room}), the numbers"), &ours, &theirs)?;
+    let lent = &mut theirs[GUARD..GUARD + room];
+    same(|| format!("the wrapper's list({n}, {low}, {high}, {room})"), ashkavorz::list(n, low, high, lent), number(r))?;
+    same(|| format!("trailing zeros by hand, list({n}, {low}, {high}, {room})"), lean::list(n, low, high, lent), r)?;
+    same(|| format!("trailing zeros by hand, list({n}, {low}, {high}, {room}), the numbers"), ours, theirs)
 }
 
 fn step(w: raw::Walk, t: &mut Tally) -> Outcome {
     let r = raw::step(w);
     t.saw("step", r.no);
-    same(|| format!("step({w:?})"), r, plain::step(w))
+    same(|| format!("step({w:?})"), r, plain::step(w))?;
+    same(|| format!("trailing zeros by hand, step({w:?})"), r, lean::step(w))
 }
 
 /// All steps of a walk are the list, and the state after them has ended.
@@ -95,13 +113,17 @@ fn walk(n: u32, low: u32, high: u32, t: &mut Tally) -> Outcome {
         w = s.walk;
     }
     same(|| format!("walk({n}, {low}, {high}) after the last word"), raw::step(w), raw::Step { no: 0, given: 0, value: 0, mask: 0, walk: w })?;
-    same(|| format!("walk({n}, {low}, {high}) ended"), w.ended, 1)
+    same(|| format!("walk({n}, {low}, {high}) ended"), w.ended, 1)?;
+    let words = plain::words(n, low, high).iter().map(|w| Ok((w.0.into(), w.1.into()))).collect::<Vec<_>>();
+    same(|| format!("the wrapper's words({n}, {low}, {high})"), ashkavorz::words(n, low, high).collect(), words)
 }
 
 fn check(n: u32, low: u32, high: u32, words: &[u16], k: usize, t: &mut Tally) -> Outcome {
     let r = raw::check(n, low, high, words, k);
     t.saw("check", r.no);
-    same(|| format!("check({n}, {low}, {high}, {words:?}, {k})"), r, plain::check(n, low, high, words, k))
+    same(|| format!("check({n}, {low}, {high}, {words:?}, {k})"), r, plain::check(n, low, high, words, k))?;
+    let found = wrapped(r, || if r.a == 1 { Checked::Yes } else { Checked::Differs(r.b) });
+    same(|| format!("the wrapper's check({n}, {low}, {high}, {words:?}, {k})"), ashkavorz::check(n, low, high, words, k), found)
 }
 
 fn compile(rules: &[u8], bytes: usize, fill: u8, t: &mut Tally) -> Result<(raw::Answer, Vec<u8>), String> {
@@ -111,6 +133,8 @@ fn compile(rules: &[u8], bytes: usize, fill: u8, t: &mut Tally) -> Result<(raw::
     t.saw("compile", r.no);
     same(|| format!("compile({rules:?}, {bytes})"), r, plain::compile(rules, &mut theirs[GUARD..GUARD + bytes]))?;
     same(|| format!("compile({rules:?}, {bytes}), the table"), &ours, &theirs)?;
+    same(|| format!("the wrapper's compile({rules:?}, {bytes})"), ashkavorz::compile(rules, &mut ours[GUARD..GUARD + bytes]), number(r))?;
+    same(|| format!("the wrapper's compile({rules:?}, {bytes}), the table"), &ours, &theirs)?;
     Ok((r, ours[GUARD..GUARD + bytes].to_vec()))
 }
 
@@ -118,6 +142,8 @@ fn find_rule(rules: &[u8], header: &[u8], t: &mut Tally) -> Result<raw::Answer, 
     let r = raw::find_rule(rules, header);
     t.saw("find_rule", r.no);
     same(|| format!("find_rule({rules:?}, {header:?})"), r, plain::find_rule(rules, header))?;
+    let found = wrapped(r, || (r.a == 1).then_some(ashkavorz::Rule { number: r.b, action: r.c }));
+    same(|| format!("the wrapper's find_rule({rules:?}, {header:?})"), ashkavorz::find_rule(rules, header), found)?;
     Ok(r)
 }
 
@@ -125,6 +151,8 @@ fn find_word(table: &[u8], k: usize, header: &[u8], t: &mut Tally) -> Result<raw
     let r = raw::find_word(table, k, header);
     t.saw("find_word", r.no);
     same(|| format!("find_word(.., {k}, {header:?})"), r, plain::find_word(table, k, header))?;
+    let found = wrapped(r, || (r.a == 1).then_some(ashkavorz::Record { index: r.b, rule: r.c, action: r.d }));
+    same(|| format!("the wrapper's find_word(.., {k}, {header:?})"), ashkavorz::find_word(table, k, header), found)?;
     Ok(r)
 }
 
@@ -288,6 +316,29 @@ fn header(r: &mut Random, rules: &[u8]) -> Vec<u8> {
         _ => {}
     }
     h
+}
+
+/// A table's room is at most 2,048 words, however long the table is: as many fit, and one more does not.
+pub fn room(t: &mut Tally) -> Outcome {
+    let rule = |low: u16, high: u16| {
+        let mut x = [0u8; plain::RULE];
+        x[1] = 6;
+        x[12..14].copy_from_slice(&low.to_be_bytes());
+        x[14..16].copy_from_slice(&high.to_be_bytes());
+        x[16..20].copy_from_slice(&[0, 80, 0, 80]);
+        x
+    };
+    // Ports 1000..2000 are 8 words, 1000..2002 are 9, and 80 is one.
+    let full = [rule(1000, 2000); plain::RULES].concat();
+    let mut over = full.clone();
+    over.splice((plain::RULES - 1) * plain::RULE.., rule(1000, 2002));
+    for table in [plain::WORDS, 2_100] {
+        let (fits, _) = compile(&full, table * plain::RECORD, 3, t)?;
+        same(|| format!("2,048 words into {table} records"), fits, plain::done(2_048, 0, 0, 0))?;
+        let (not, _) = compile(&over, table * plain::RECORD, 3, t)?;
+        same(|| format!("2,049 words into {table} records"), not, plain::refused(8, 2_049, 0))?;
+    }
+    Ok(())
 }
 
 /// Rule lists, tables and headers, from the seed. A compiled table must find what the rules find.

@@ -25,6 +25,7 @@ fn calls() -> Result<(), String> {
     calls::small_widths(&mut tally)?;
     calls::intervals(&mut random, 200_000, &mut tally)?;
     calls::checks(&mut random, 40_000, &mut tally)?;
+    calls::room(&mut tally)?;
     calls::tables(&mut random, 4_000, &mut tally)?;
     tally.report()
 }

@@ -1,6 +1,6 @@
 //! Sheets through libtablet.a and through the program, against the plain reader and printer.
 
-use crate::{calls::same, plain, random::Random, sheet};
+use crate::{calls::{number, same}, plain, random::Random, sheet};
 use ashkavorz::raw;
 use std::{
     collections::BTreeMap,
@@ -27,6 +27,7 @@ fn read(text: &[u8], room: usize, fill: u8, seen: &mut Seen) -> Outcome {
     *seen.0.entry((r.no, if r.no == 20 { r.b } else { 0 })).or_default() += 1;
     same(|| format!("read_sheet({:?}, {room})", shown(text)), r, sheet::read(text, &mut theirs[GUARD..GUARD + room]))?;
     same(|| format!("read_sheet({:?}, {room}), the records", shown(text)), &ours, &theirs)?;
+    same(|| format!("the wrapper's read_sheet({:?}, {room})", shown(text)), ashkavorz::read_sheet(text, &mut ours[GUARD..GUARD + room]), number(r))?;
     if r.no == 0 {
         let rules = &ours[GUARD..GUARD + plain::RULE * r.a as usize];
         let compiled = raw::compile(rules, &mut vec![0; plain::RECORD * plain::WORDS]);
@@ -170,6 +171,9 @@ fn program(path: &str, text: &[u8], piece: usize) -> Result<String, String> {
     });
     let output = child.wait_with_output().map_err(failed)?;
     writer.join().unwrap();
+    if !output.status.success() {
+        return Err(format!("{path} ended with {}", output.status));
+    }
     String::from_utf8(output.stdout).map_err(|e| e.to_string())
 }
 

@@ -24,7 +24,7 @@ int main(void)
     if (interval.no != 0)
         return refused("close", interval);
 
-    uint16_t list[60];
+    uint16_t list[ASHKAVORZ_LIST_NUMBERS];
     struct ashkavorz_answer words = ashkavorz_list(16, interval.a, interval.b, list, sizeof list / sizeof list[0]);
     if (words.no != 0)
         return refused("list", words);
@@ -32,7 +32,7 @@ int main(void)
     for (uint32_t i = 0; i < words.a; i++)
         printf("  %04X %04X\n", (unsigned)list[2 * i], (unsigned)list[2 * i + 1]);
 
-    uint8_t table[28 * 8];
+    uint8_t table[8 * ASHKAVORZ_RECORD_BYTES];
     struct ashkavorz_answer made = ashkavorz_compile(rules, sizeof rules, table, sizeof table);
     if (made.no != 0)
         return refused("compile", made);

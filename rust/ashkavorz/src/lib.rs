@@ -2,6 +2,19 @@
 //! `Result`; it has no logic of its own. The C functions are proved to be safe, to end, and to answer as document 01 says, on
 //! any numbers and any memory that the pointer and length describe.
 
+/// Bytes of a rule, and the most rules of a list.
+pub const RULE_BYTES: usize = 21;
+pub const RULES_MOST: usize = 256;
+/// Bytes of a header.
+pub const HEADER_BYTES: usize = 13;
+/// Bytes of a table record, and the most words of a table.
+pub const RECORD_BYTES: usize = 28;
+pub const WORDS_MOST: usize = 2048;
+/// The most bytes of a rule sheet.
+pub const SHEET_BYTES_MOST: usize = 65_536;
+/// Numbers of a list that is large enough for every interval.
+pub const LIST_NUMBERS: usize = 60;
+
 /// Why a call was refused: document 01's number, and the values returned with it (0 where there are none).
 #[derive(Clone, Copy, Debug, PartialEq, Eq)]
 pub struct Refusal {
@@ -9,6 +22,14 @@ pub struct Refusal {
     pub a: u32,
     pub b: u32,
 }
+
+impl std::fmt::Display for Refusal {
+    fn fmt(&self, f: &mut std::fmt::Formatter<'_>) -> std::fmt::Result {
+        write!(f, "refused with {}: {}, {}", self.no, self.a, self.b)
+    }
+}
+
+impl std::error::Error for Refusal {}
 
 /// What checking somebody else's list finds.
 #[derive(Clone, Copy, Debug, PartialEq, Eq)]
@@ -106,7 +127,10 @@ impl Iterator for Words {
     }
 }
 
-/// The C functions as they are, with slices for pointer and length.
+/// The C functions as they are, with slices for pointer and length; `include/ashkavorz.h` says what each answers.
+///
+/// Safety, of every call below: the library is proved to read and write within the pointer and length that it is handed, and to
+/// keep neither. A slice is aligned, holds initialised numbers, and a `&mut` one overlaps no other, which is all that it asks.
 pub mod raw {
     #[repr(C)]
     #[derive(Clone, Copy, Debug, Default, PartialEq, Eq)]
@@ -183,6 +207,7 @@ pub mod raw {
     pub fn find_word(table: &[u8], k: usize, header: &[u8]) -> Answer {
         unsafe { c::ashkavorz_find_word(table.as_ptr(), table.len(), k, header.as_ptr(), header.len()) }
     }
+
     pub fn read_sheet(text: &[u8], rules: &mut [u8]) -> Answer {
         unsafe { c::ashkavorz_read_sheet(text.as_ptr(), text.len(), rules.as_mut_ptr(), rules.len()) }
     }
