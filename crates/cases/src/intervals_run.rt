@@ -113,7 +113,7 @@ fn listed(r: Listed) {
             say::text(b" words:");
         }
         Listed::Room(k) => {
-            say::refused(4);
+            say::refused(answers::ROOM);
             say::text(b" with ");
             say::number(k);
             say::text(b":");
@@ -242,9 +242,9 @@ fn check(n: u32, low: u32, high: u32, list: &[u16], k: usize) {
             say::number(x);
         }
         Checked::Refused(f) => say::fault(f),
-        Checked::Stated => say::refused(9),
+        Checked::Stated => say::refused(answers::STATED),
         Checked::Ill(i) => {
-            say::refused(10);
+            say::refused(answers::ILL);
             say::text(b" with ");
             say::size(i);
         }

@@ -62,8 +62,8 @@ pub fn refused(no: u32) {
 
 pub fn fault(f: Fault) {
     match f {
-        Fault::Width => refused(1),
-        Fault::Fit => refused(2),
-        Fault::Order => refused(3),
+        Fault::Width => refused(answers::WIDTH),
+        Fault::Fit => refused(answers::FIT),
+        Fault::Order => refused(answers::ORDER),
     }
 }

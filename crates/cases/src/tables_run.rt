@@ -1,49 +1,21 @@
-// The cases of rule lists, headers and tables.
+// The cases of compiling and of the records that headers find.
+use crate::lists_run::any_rule;
+use crate::lists_run::by_rule;
+use crate::lists_run::fields;
+use crate::lists_run::list_fault;
+use crate::lists_run::pairs;
+use crate::lists_run::part;
 use crate::say;
-use rules::ListFault;
+use records::LIST_BYTES;
+use records::RECORD_SIZE;
+use records::RULE_SIZE;
+use records::TABLE_BYTES;
 use tables::Compiled;
 
-// A rule for any protocol, addresses and ports, permitted.
-fn any_rule() -> [u8; 21] {
-    let mut r = [0u8; 21];
-    r[0] = 1;
-    r[14] = 255;
-    r[15] = 255;
-    r[18] = 255;
-    r[19] = 255;
-    r
-}
+// Bytes of one rule more than a list may have, and of two records.
+const OVER: usize = LIST_BYTES + RULE_SIZE;
 
-// The rule with another byte.
-fn with(r: [u8; 21], at: usize, x: u8) -> [u8; 21] {
-    let mut s = r;
-    if at < 21 {
-        s[at] = x;
-    }
-    s
-}
-
-// The first n bytes, or all where there are fewer.
-fn part(s: &[u8], n: usize) -> &[u8] {
-    if n <= s.len() {
-        return &s[..n];
-    }
-    s
-}
-
-fn list_fault(f: ListFault) {
-    match f {
-        ListFault::Odd => say::refused(5),
-        ListFault::Many => say::refused(6),
-        ListFault::Bad(i, field) => {
-            say::refused(7);
-            say::text(b" with ");
-            say::number(i);
-            say::text(b", ");
-            say::byte(field);
-        }
-    }
-}
+const TWO: usize = 2 * RECORD_SIZE;
 
 fn compiled(c: Compiled) {
     match c {
@@ -53,7 +25,7 @@ fn compiled(c: Compiled) {
         }
         Compiled::Refused(f) => list_fault(f),
         Compiled::Space(k) => {
-            say::refused(8);
+            say::refused(answers::SPACE);
             say::text(b" with ");
             say::number(k);
         }
@@ -69,10 +41,10 @@ fn words(c: Compiled) -> usize {
     }
 }
 
-// Compiles into the first bytes of a table.
+// Compiles into the first bytes of a table, or into all of it where it has fewer.
 fn compile_part(rules: &[u8], table: &mut [u8], room: usize) -> Compiled {
     if table.len() < room {
-        return Compiled::Words(0);
+        return tables::compile(rules, table);
     }
     tables::compile(rules, &mut table[..room])
 }
@@ -85,32 +57,14 @@ fn compile_label(label: &[u8]) {
 
 // Compiles into a table of so many bytes.
 fn compile_in(label: &[u8], rules: &[u8], room: usize) {
-    let mut table = [0u8; 57344];
+    let mut table = [0u8; TABLE_BYTES];
     compile_label(label);
     compiled(compile_part(rules, &mut table, room));
 }
 
 // Compiles into a table with room for 2,048 words.
 fn compile(label: &[u8], rules: &[u8]) {
-    compile_in(label, rules, 57344);
-}
-
-fn by_rule(label: &[u8], rules: &[u8], header: &[u8]) {
-    say::text(b"by rule, ");
-    say::text(label);
-    say::text(b": ");
-    match rules::find_rule(rules, header) {
-        rules::Found::Rule(i, action) => {
-            say::text(b"rule ");
-            say::number(i);
-            say::text(b", action ");
-            say::byte(action);
-        }
-        rules::Found::Nothing => say::text(b"nothing"),
-        rules::Found::Refused(f) => list_fault(f),
-        rules::Found::Header => say::refused(11),
-    }
-    say::end();
+    compile_in(label, rules, TABLE_BYTES);
 }
 
 fn by_word(label: &[u8], table: &[u8], k: usize, header: &[u8]) {
@@ -131,20 +85,20 @@ fn by_word(label: &[u8], table: &[u8], k: usize, header: &[u8]) {
             say::byte(action);
         }
         tables::Found::Nothing => say::text(b"nothing"),
-        tables::Found::Stated => say::refused(9),
+        tables::Found::Stated => say::refused(answers::STATED),
         tables::Found::Ill(i) => {
-            say::refused(10);
+            say::refused(answers::ILL);
             say::text(b" with ");
             say::number(i);
         }
-        tables::Found::Header => say::refused(11),
+        tables::Found::Header => say::refused(answers::HEADER),
     }
     say::end();
 }
 
 // Compiles, and finds a header in the table.
 fn compile_find(label: &[u8], rules: &[u8], header: &[u8]) {
-    let mut table = [0u8; 57344];
+    let mut table = [0u8; TABLE_BYTES];
     let k = words(tables::compile(rules, &mut table));
     by_word(label, &table, k, header);
 }
@@ -182,7 +136,7 @@ fn hex(s: &[u8]) {
 // The whole record of document 01.
 fn whole_record() {
     let rule = b"\0\x06\0\0\0\0\0\x0A\0\0\0\x08\0\0\xFF\xFF\x01\xF6\x01\xF7\0";
-    let mut table = [0u8; 28];
+    let mut table = [0u8; RECORD_SIZE];
     compile_label(b"the whole record");
     compiled(tables::compile(rule, &mut table));
     say::text(b"record: ");
@@ -195,12 +149,20 @@ fn wide_rules() {
         \x01\0\0\0\0\0\0\0\0\0\0\0\0\x01\xFF\xFE\0\x01\xFF\xFE\x01\
         \x01\0\0\0\0\0\0\0\0\0\0\0\0\x01\xFF\xFE\0\x01\xFF\xFE\x02";
     let ports = [17u8, 0, 0, 0, 0, 0, 0, 0, 0, 255, 254, 255, 254];
-    compile(b"900 words", part(rules, 21));
-    compile(b"1,800 words", part(rules, 42));
-    compile_find(b"ports 65534 and 65534", part(rules, 42), &ports);
+    compile(b"900 words", part(rules, RULE_SIZE));
+    compile(b"1,800 words", part(rules, 2 * RULE_SIZE));
+    compile_find(b"ports 65534 and 65534", part(rules, 2 * RULE_SIZE), &ports);
     compile(b"2,700 words", rules);
-    compile_in(b"900 words, room for 900", part(rules, 21), 25200);
-    compile_in(b"900 words, room for 899", part(rules, 21), 25199);
+    compile_in(
+        b"900 words, room for 900",
+        part(rules, RULE_SIZE),
+        900 * RECORD_SIZE,
+    );
+    compile_in(
+        b"900 words, room for 899",
+        part(rules, RULE_SIZE),
+        900 * RECORD_SIZE - 1,
+    );
 }
 
 // No rules, and lengths around a rule's and a header's.
@@ -209,18 +171,26 @@ fn lengths() {
     let header = [6u8, 0, 0, 0, 0, 0, 0, 0, 0, 0, 0, 0, 0];
     compile(b"no rules", part(more, 0));
     both(b"no rules", part(more, 0), &header);
-    compile(b"20 bytes", part(more, 20));
-    compile(b"21 bytes", part(more, 21));
+    compile(b"20 bytes", part(more, RULE_SIZE - 1));
+    compile(b"21 bytes", part(more, RULE_SIZE));
     compile(b"22 bytes", more);
-    by_rule(b"20 bytes", part(more, 20), &header);
-    by_rule(b"a header of 12 bytes", part(more, 21), part(&header, 12));
+    by_rule(b"20 bytes", part(more, RULE_SIZE - 1), &header);
     by_rule(
-        b"a header of 12 bytes, 20 bytes of rules",
-        part(more, 20),
+        b"a header of 12 bytes",
+        part(more, RULE_SIZE),
         part(&header, 12),
     );
-    by_rule(b"a header of 14 bytes", part(more, 21), part(more, 14));
-    by_rule(b"a header of 13 bytes", part(more, 21), &header);
+    by_rule(
+        b"a header of 12 bytes, 20 bytes of rules",
+        part(more, RULE_SIZE - 1),
+        part(&header, 12),
+    );
+    by_rule(
+        b"a header of 14 bytes",
+        part(more, RULE_SIZE),
+        part(more, 14),
+    );
+    by_rule(b"a header of 13 bytes", part(more, RULE_SIZE), &header);
 }
 
 // Fills the list with copies of one rule.
@@ -228,7 +198,7 @@ fn copies(rules: &mut [u8]) {
     let one = any_rule();
     let mut i: usize = 0;
     while i < rules.len() {
-        rules[i] = one[i % 21];
+        rules[i] = one[i % RULE_SIZE];
         i += 1;
     }
 }
@@ -241,89 +211,20 @@ fn set(s: &mut [u8], at: usize, x: u8) {
 
 // 257 rules, with two of their bytes set.
 fn limits(first: u8, last: u8) {
-    let mut rules = [0u8; 5397];
+    let mut rules = [0u8; OVER];
     let header = [6u8, 0, 0, 0, 0, 0, 0, 0, 0, 0, 0, 0, 0];
     copies(&mut rules);
-    set(&mut rules, 20, first);
-    set(&mut rules, 5375, last);
-    compile(b"256 rules", part(&rules, 5376));
+    set(&mut rules, RULE_SIZE - 1, first);
+    set(&mut rules, LIST_BYTES - 1, last);
+    compile(b"256 rules", part(&rules, LIST_BYTES));
     compile(b"257 rules", &rules);
-    by_rule(b"256 rules", part(&rules, 5376), &header);
+    by_rule(b"256 rules", part(&rules, LIST_BYTES), &header);
     by_rule(b"257 rules", &rules, &header);
 }
 
-fn bad(label: &[u8], r: [u8; 21]) {
-    let header = [6u8, 0, 0, 0, 0, 0, 0, 0, 0, 0, 0, 0, 0];
-    by_rule(label, &r, &header);
-}
-
-// Each bad field alone.
-fn fields() {
-    let r = any_rule();
-    bad(b"flag 2", with(r, 0, 2));
-    bad(b"protocol 6 under any", with(r, 1, 6));
-    bad(b"source length 33", with(r, 6, 33));
-    bad(b"source 10.0.0.1/8", with(with(with(r, 2, 10), 5, 1), 6, 8));
-    bad(
-        b"source 10.0.0.1/32",
-        with(with(with(r, 2, 10), 5, 1), 6, 32),
-    );
-    bad(b"destination length 33", with(r, 11, 33));
-    bad(
-        b"destination 10.0.0.1/8",
-        with(with(with(r, 7, 10), 10, 1), 11, 8),
-    );
-    bad(b"destination 128.0.0.0/0", with(r, 7, 128));
-    bad(
-        b"source ports 256-0",
-        with(with(with(r, 12, 1), 14, 0), 15, 0),
-    );
-    bad(
-        b"destination ports 1-0",
-        with(with(with(r, 17, 1), 18, 0), 19, 0),
-    );
-    bad(b"action 3", with(r, 20, 3));
-    bad(b"action 4", with(r, 20, 4));
-}
-
-// Bad fields in pairs: the first of them is named.
-fn pairs() {
-    let r = any_rule();
-    bad(b"flag 2 and protocol 6", with(with(r, 0, 2), 1, 6));
-    bad(
-        b"protocol 6 and source length 33",
-        with(with(r, 1, 6), 6, 33),
-    );
-    bad(
-        b"source length 33 and address bits",
-        with(with(r, 2, 10), 6, 33),
-    );
-    bad(
-        b"source address bits and destination length 33",
-        with(with(r, 2, 10), 11, 33),
-    );
-    bad(
-        b"destination length 33 and address bits",
-        with(with(r, 7, 10), 11, 33),
-    );
-    bad(
-        b"destination address bits and source ports 256-255",
-        with(with(with(r, 7, 10), 12, 1), 14, 0),
-    );
-    bad(
-        b"both port intervals crossed",
-        with(with(with(with(r, 12, 1), 14, 0), 16, 1), 18, 0),
-    );
-    bad(
-        b"destination ports 256-255 and action 4",
-        with(with(with(r, 16, 1), 18, 0), 20, 4),
-    );
-    bad(b"flag 2 and action 4", with(with(r, 0, 2), 20, 4));
-}
-
 // A table of two records: protocol 6 to 10.0.0.0/8 on port 502, permitted; anything, denied. Three of its bytes may be others.
-fn two_records(value: u8, first: u8, last: u8) -> [u8; 56] {
-    let mut t = [0u8; 56];
+fn two_records(value: u8, first: u8, last: u8) -> [u8; TWO] {
+    let mut t = [0u8; TWO];
     t[0] = 6;
     t[1] = value;
     t[5] = 10;
@@ -360,7 +261,7 @@ fn stated() {
     by_word(b"three records counted", &two_records(0, 0, 1), 3, &header);
     by_word(
         b"two counted, 55 bytes",
-        part(&two_records(0, 0, 1), 55),
+        part(&two_records(0, 0, 1), TWO - 1),
         2,
         &header,
     );

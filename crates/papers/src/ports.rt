@@ -1,5 +1,6 @@
 // Table 1 of source document 001: three rules on ports, compiled one by one and together, and a header found in the table.
 use crate::say;
+use records::TABLE_BYTES;
 use tables::Compiled;
 use tables::Found;
 
@@ -9,44 +10,6 @@ fn high(x: u16) -> u8 {
 
 fn low(x: u16) -> u8 {
     (x % 256) as u8
-}
-
-// A rule for any protocol and any addresses, with its source and destination ports.
-fn rule(slow: u16, shigh: u16, dlow: u16, dhigh: u16, action: u8) -> [u8; 21] {
-    [
-        1,
-        0,
-        0,
-        0,
-        0,
-        0,
-        0,
-        0,
-        0,
-        0,
-        0,
-        0,
-        high(slow),
-        low(slow),
-        high(shigh),
-        low(shigh),
-        high(dlow),
-        low(dlow),
-        high(dhigh),
-        low(dhigh),
-        action,
-    ]
-}
-
-// The list of three rules.
-fn list(a: [u8; 21], b: [u8; 21], c: [u8; 21]) -> [u8; 63] {
-    let mut rules = [0u8; 63];
-    for i in 0..21 {
-        rules[i] = a[i];
-        rules[21 + i] = b[i];
-        rules[42 + i] = c[i];
-    }
-    rules
 }
 
 // The words of a compiled list. A refused list would show, as 0.
@@ -59,9 +22,9 @@ fn words(c: Compiled) -> u32 {
 }
 
 // A rule's words, where it is alone in its list.
-fn alone(rule: [u8; 21]) {
-    let mut table = [0u8; 57344];
-    say::number(words(tables::compile(&rule, &mut table)) as u64);
+fn alone(rule: &[u8]) {
+    let mut table = [0u8; TABLE_BYTES];
+    say::number(words(tables::compile(rule, &mut table)) as u64);
     say::text(b" ");
 }
 
@@ -113,9 +76,9 @@ fn find(table: &[u8], k: u32, sport: u16, dport: u16) {
 }
 
 // The words of a list together, and where a header with ports 1080 and 2080 is found among them.
-fn together(rules: [u8; 63]) {
-    let mut table = [0u8; 57344];
-    let k = words(tables::compile(&rules, &mut table));
+fn together(rules: &[u8]) {
+    let mut table = [0u8; TABLE_BYTES];
+    let k = words(tables::compile(rules, &mut table));
     say::number(k as u64);
     say::end();
     find(&table, k, 1080, 2080);
@@ -123,11 +86,13 @@ fn together(rules: [u8; 63]) {
 
 pub fn run() {
     say::text(b"source document 001, table 1: the words of each rule, and together\n");
-    let first = rule(1, 65535, 6790, 6790, 0);
-    let second = rule(1000, 2000, 1, 5589, 0);
-    let last = rule(0, 65535, 0, 65535, 1);
-    alone(first);
-    alone(second);
-    alone(last);
-    together(list(first, second, last));
+    // Any protocol and any addresses; source and destination ports 1-65535 and 6790, 1000-2000 and 1-5589, all and all.
+    alone(b"\x01\0\0\0\0\0\0\0\0\0\0\0\0\x01\xFF\xFF\x1A\x86\x1A\x86\0");
+    alone(b"\x01\0\0\0\0\0\0\0\0\0\0\0\x03\xE8\x07\xD0\0\x01\x15\xD5\0");
+    alone(b"\x01\0\0\0\0\0\0\0\0\0\0\0\0\0\xFF\xFF\0\0\xFF\xFF\x01");
+    together(
+        b"\x01\0\0\0\0\0\0\0\0\0\0\0\0\x01\xFF\xFF\x1A\x86\x1A\x86\0\
+        \x01\0\0\0\0\0\0\0\0\0\0\0\x03\xE8\x07\xD0\0\x01\x15\xD5\0\
+        \x01\0\0\0\0\0\0\0\0\0\0\0\0\0\xFF\xFF\0\0\xFF\xFF\x01",
+    );
 }

@@ -44,9 +44,9 @@ pub fn fault_number(f: Fault) -> u32
     ensures { λ r. ⌜ r ≡ numberOf f ⌝ }
 {
     match f {
-        Fault::Width => 1,
-        Fault::Fit => 2,
-        Fault::Order => 3,
+        Fault::Width => answers::WIDTH,
+        Fault::Fit => answers::FIT,
+        Fault::Order => answers::ORDER,
     }
 }
 
@@ -54,9 +54,9 @@ fn list_fault(f: ListFault) -> Answer
     ensures { λ r. ⌜ r ≡ listFaultAs f ⌝ }
 {
     match f {
-        ListFault::Odd => refused_with(5, 0, 0),
-        ListFault::Many => refused_with(6, 0, 0),
-        ListFault::Bad(i, field) => refused_with(7, i, field as u32),
+        ListFault::Odd => refused_with(answers::ODD, 0, 0),
+        ListFault::Many => refused_with(answers::MANY, 0, 0),
+        ListFault::Bad(i, field) => refused_with(answers::RULE, i, field as u32),
     }
 }
 
@@ -83,7 +83,7 @@ pub fn listed(l: Listed) -> Answer
 {
     match l {
         Listed::Words(k) => done_with(k, 0, 0, 0),
-        Listed::Room(k) => refused_with(4, k, 0),
+        Listed::Room(k) => refused_with(answers::ROOM, k, 0),
         Listed::Refused(f) => refused_with(fault_number(f), 0, 0),
     }
 }
@@ -102,8 +102,8 @@ pub fn checked(c: Checked) -> Answer
         Checked::Yes => done_with(1, 0, 0, 0),
         Checked::Differs(x) => done_with(0, x, 0, 0),
         Checked::Refused(f) => refused_with(fault_number(f), 0, 0),
-        Checked::Stated => refused_with(9, 0, 0),
-        Checked::Ill(i) => refused_with(10, low32(i), 0),
+        Checked::Stated => refused_with(answers::STATED, 0, 0),
+        Checked::Ill(i) => refused_with(answers::ILL, low32(i), 0),
     }
 }
 
@@ -113,7 +113,7 @@ pub fn compiled(c: Compiled) -> Answer
     match c {
         Compiled::Words(k) => done_with(k, 0, 0, 0),
         Compiled::Refused(f) => list_fault(f),
-        Compiled::Space(k) => refused_with(8, k, 0),
+        Compiled::Space(k) => refused_with(answers::SPACE, k, 0),
     }
 }
 
@@ -124,7 +124,7 @@ pub fn found_rule(f: rules::Found) -> Answer
         rules::Found::Rule(i, action) => done_with(1, i, action as u32, 0),
         rules::Found::Nothing => done_with(0, 0, 0, 0),
         rules::Found::Refused(f) => list_fault(f),
-        rules::Found::Header => refused_with(11, 0, 0),
+        rules::Found::Header => refused_with(answers::HEADER, 0, 0),
     }
 }
 
@@ -138,9 +138,9 @@ pub fn found_word(f: tables::Found) -> Answer
             action,
         } => done_with(1, index, rule, action as u32),
         tables::Found::Nothing => done_with(0, 0, 0, 0),
-        tables::Found::Stated => refused_with(9, 0, 0),
-        tables::Found::Ill(i) => refused_with(10, i, 0),
-        tables::Found::Header => refused_with(11, 0, 0),
+        tables::Found::Stated => refused_with(answers::STATED, 0, 0),
+        tables::Found::Ill(i) => refused_with(answers::ILL, i, 0),
+        tables::Found::Header => refused_with(answers::HEADER, 0, 0),
     }
 }
 
@@ -148,10 +148,10 @@ pub fn sheet(s: Sheet) -> Answer
     ensures { λ r. ⌜ r ≡ readAs s ⌝ }
 {
     match s {
-        Sheet::Long => refused_with(21, 0, 0),
-        Sheet::Many => refused_with(6, 0, 0),
-        Sheet::Bad(line, field) => refused_with(20, line, field),
-        Sheet::Room(bytes) => refused_with(4, bytes, 0),
+        Sheet::Long => refused_with(answers::LONG, 0, 0),
+        Sheet::Many => refused_with(answers::MANY, 0, 0),
+        Sheet::Bad(line, field) => refused_with(answers::LINE, line, field),
+        Sheet::Room(bytes) => refused_with(answers::ROOM, bytes, 0),
         Sheet::Rules(n) => done_with(n, 0, 0, 0),
     }
 }

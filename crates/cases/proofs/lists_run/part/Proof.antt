@@ -1,10 +1,10 @@
--- `cases::tables_run::part` is safe: the part is as long as asked. Assumes nothing.
+-- `cases::lists_run::part` is safe: the part is as long as asked. Assumes nothing.
 use mathlib.Core.Path.{sym}
 use native.Mathlib.Omega.{arith}
 use lib.Seq.{length-take-le}
 use borrow.Author.Needs.{needs}
-use Rattle.cases.proofs.tables_run.part.Statement.{statement}
-use Rattle.cases.proofs.tables_run.part.Tie as tie
+use Rattle.cases.proofs.lists_run.part.Statement.{statement}
+use Rattle.cases.proofs.lists_run.part.Tie as tie
 
 slice-aggregate-result : tie.Need-slice-aggregate-result
 slice-aggregate-result c = sym (length-take-le _ _ (omega arith))
