@@ -68,6 +68,11 @@ abbrev pub wordThen : ℕ → Word → List Word → List Word
 wordThen zero v vs = []
 wordThen (suc g) v vs = v ∷ vs
 
+-- the state after f steps
+unfoldable pub walkAfter : ℕ → Walk → Walk
+walkAfter zero w = w
+walkAfter (suc f) w = walkAfter f (stepping w .walk)
+
 -- the words that at most f steps give
 unfoldable pub walked : ℕ → Walk → List Word
 walked zero w = []
