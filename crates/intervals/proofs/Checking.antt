@@ -1,6 +1,7 @@
 -- What the answer of `check` means, said of the call's own answer. Assumes nothing.
 use mathlib.Core.Bool.{Bool, true, false}
 use mathlib.Core.List.{List}
+use mathlib.Core.Logic.{_⊎_}
 use mathlib.Core.Path.{_≡_, refl, ap, _∙_}
 use Prim.Native.Nat.{ℕ, _/_, _^_, _≤_, _<_}
 use native.Mathlib.Omega.{arith}
@@ -23,7 +24,7 @@ use Rattle.intervals.specs.declared.ends.Fault.the-variants.{Width, Fit,
 use Rattle.intervals.specs.declared.ends.Tested.{Tested}
 use Rattle.intervals.specs.declared.ends.Tested.the-variants.{Good, Bad}
 use Rattle.intervals.proofs.Testing.{good-tested, tested-good}
-use Rattle.intervals.proofs.Verdicts.{Disagree, formed-none, none-ill, verdict-no, verdict-yes, yes-verdict}
+use Rattle.intervals.proofs.Verdicts.{Disagree, formed-none, none-ill, verdict-either, verdict-no, verdict-yes, yes-verdict}
 
 fault-some : (f : Fault) → numberOf f ≡ 0 → ⊥
 fault-some Width e = omega arith
@@ -54,16 +55,23 @@ module _ (n low high : ℕ) (l : List ℕ) (k : ℕ) where
       let j = judged-from (done 1 0 0 0) e refl in
       verdict-yes n low high (wordsFrom 0 k l) (j .formed) (j .closed .fits) (j .judges)
 
-  -- and it says so whenever they do
-  pub yes-check : Closed n low high → k ≤ length l / 2 → AllFormed n (wordsFrom 0 k l) → Exactly n low high (wordsFrom 0 k l)
-      → checking n low high l k ≡ done 1 0 0 0
-  unfolding checking behind judged behindIll
-  yes-check c h f x =
-      simp (good-tested n low high c, le-ltb (length l / 2) k h, formed-none n 0 (wordsFrom 0 k l) f) (yes-verdict n low high (wordsFrom 0 k l) f x)
-
   -- no: the value is one on which they disagree, and none below it is
   pub check-no : (x : ℕ) → checking n low high l k ≡ done 0 x 0 0
       → (x < 2 ^ n) × Disagree low high (wordsFrom 0 k l) x × ((y : ℕ) → y < x → Disagree low high (wordsFrom 0 k l) y → ⊥)
   check-no x e =
       let j = judged-from (done 0 x 0 0) e refl in
       verdict-no n low high x (wordsFrom 0 k l) (j .formed) (j .judges)
+
+  module _ (c : Closed n low high) (h : k ≤ length l / 2) (f : AllFormed n (wordsFrom 0 k l)) where
+    -- where nothing is refused the answer is the verdict
+    checks : checking n low high l k ≡ verdict (2 ^ n) 0 low high (wordsFrom 0 k l)
+    unfolding checking behind judged behindIll
+    checks = simp (good-tested n low high c, le-ltb (length l / 2) k h, formed-none n 0 (wordsFrom 0 k l) f)
+
+    -- yes is said whenever the words match just the interval
+    pub yes-check : Exactly n low high (wordsFrom 0 k l) → checking n low high l k ≡ done 1 0 0 0
+    yes-check x = checks ∙ yes-verdict n low high (wordsFrom 0 k l) f x
+
+    -- and else it is no: there is no third answer
+    pub check-either : (checking n low high l k ≡ done 1 0 0 0) ⊎ ((x : ℕ) × (checking n low high l k ≡ done 0 x 0 0))
+    check-either = rw checks (verdict-either low high (wordsFrom 0 k l) (2 ^ n) 0)
