@@ -1,20 +1,16 @@
 -- The tests of a word say what the definitions say: well formed, and some word of a list matches. Assumes nothing.
 use mathlib.Core.Path.{_≡_, refl}
 use mathlib.Core.Bool.{Bool, true, false, _&&_, _||_, false≢true, and-eq-true-iff, or-true}
-use mathlib.Core.List.{List, [], _∷_, List·Memᴰ, List·Memᴰ·head, List·Memᴰ·tail}
+use mathlib.Core.List.{List, [], _∷_, List·Memᴰ·head, List·Memᴰ·tail}
 use mathlib.Core.Logic.{inl, inr}
 use Prim.Native.Nat.{ℕ, _^_}
 use lib.Bits.{bitAnd}
 use lib.Dec.{eqb, ltb}
 use borrow.Author.Tests.{lt-ltb, ltb-true, eq-eqb, eqb-true}
 use Rattle.blocks.specs.Tests.{formed?, matches?, some?}
-use Rattle.blocks.specs.Words.{Formed, Some}
+use Rattle.blocks.specs.Words.{AllFormed, Formed, Some}
 use Rattle.blocks.specs.declared.Word.{Word}
 use Rattle.blocks.proofs.Agreement.{formed-and, and-formed, match-value, value-match}
-
--- every word of the list is well formed
-abbrev pub AllFormed : ℕ → List Word → Type 0
-AllFormed n ws = (w : Word) → List·Memᴰ w ws → Formed n w
 
 module _ (n : ℕ) (w : Word) where
   pub formed-test : formed? n w ≡ true → Formed n w

@@ -1,6 +1,6 @@
 -- Ternary words and what they match (document 01, "Intervals and words"; source document 002, section 2).
 use mathlib.Core.Logic.{_⊎_}
-use mathlib.Core.List.{List, [], _∷_}
+use mathlib.Core.List.{List, [], _∷_, List·Memᴰ}
 use mathlib.Core.Path.{_≡_}
 use Prim.Native.Nat.{ℕ, _-_, _^_, _≤_, _<_}
 use Rattle.bits.specs.Digits.{bit}
@@ -19,6 +19,10 @@ pub record Formed (n : ℕ) (w : Word) : Type 0 where
   pub clear : (i : ℕ) → bit i (w .mask) ≡ 0 → bit i (w .value) ≡ 0
   pub value-fits : w .value < 2 ^ n
   pub mask-fits : w .mask < 2 ^ n
+
+-- every word of the list is well formed
+abbrev pub AllFormed : ℕ → List Word → Type 0
+AllFormed n ws = (w : Word) → List·Memᴰ w ws → Formed n w
 
 -- a prefix word of width n: the top `leading` of its n mask bits are set, and no other
 pub record Prefix (n : ℕ) (w : Word) : Type 0 where

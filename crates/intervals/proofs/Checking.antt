@@ -14,17 +14,16 @@ use Rattle.answers.specs.declared.Answer.{Answer}
 use Rattle.answers.specs.declared.Lowest.{Lowest}
 use Rattle.answers.specs.declared.Lowest.the-variants.{None, At}
 use Rattle.bits.specs.Choice.{if_then_else_}
-use Rattle.blocks.proofs.Testing.{AllFormed}
 use Rattle.blocks.specs.Blocks.{Closed}
-use Rattle.blocks.specs.Words.{Exactly}
-use Rattle.intervals.specs.Checks.{checking, firstIll, judged, verdict, wordsFrom}
+use Rattle.blocks.specs.Words.{AllFormed, Exactly}
+use Rattle.intervals.specs.Checks.{Disagree, checking, firstIll, judged, verdict, wordsFrom}
 use Rattle.intervals.specs.Ends.{behind, numberOf, tested}
 use Rattle.intervals.specs.declared.ends.Fault.{Fault}
 use Rattle.intervals.specs.declared.ends.Fault.the-variants.{Width, Fit, Order}
 use Rattle.intervals.specs.declared.ends.Tested.{Tested}
 use Rattle.intervals.specs.declared.ends.Tested.the-variants.{Good, Bad}
 use Rattle.intervals.proofs.Testing.{good-tested, tested-good}
-use Rattle.intervals.proofs.Verdicts.{Disagree, formed-none, none-ill, verdict-either, verdict-no, verdict-yes, yes-verdict}
+use Rattle.intervals.proofs.Verdicts.{formed-none, none-ill, verdict-either, verdict-no, verdict-yes, yes-verdict}
 
 fault-some : (f : Fault) → numberOf f ≡ 0 → ⊥
 fault-some Width e = omega arith

@@ -14,15 +14,11 @@ use Rattle.answers.specs.declared.Answer.{Answer}
 use Rattle.answers.specs.declared.Lowest.the-variants.{None, At}
 use Rattle.bits.proofs.Orders.{le-or-lt}
 use Rattle.bits.specs.Choice.{if_then_else_}
-use Rattle.blocks.proofs.Testing.{AllFormed, formed-test, some-test, test-formed, test-some}
+use Rattle.blocks.proofs.Testing.{formed-test, some-test, test-formed, test-some}
 use Rattle.blocks.specs.Tests.{formed?, some?}
-use Rattle.blocks.specs.Words.{word, Formed, Some, Exactly}
+use Rattle.blocks.specs.Words.{AllFormed, Exactly, Formed, Some, word}
 use Rattle.blocks.specs.declared.Word.{Word}
-use Rattle.intervals.specs.Checks.{agree?, firstIll, verdict}
-
--- x is in the interval and no word matches it, or the other way round
-abbrev pub Disagree : (low high : ℕ) (ws : List Word) (x : ℕ) → Type 0
-Disagree low high ws x = (((low ≤ x) × (x ≤ high)) × (Some ws x → ⊥)) ⊎ (((low ≤ x) × (x ≤ high) → ⊥) × Some ws x)
+use Rattle.intervals.specs.Checks.{Disagree, agree?, firstIll, verdict}
 
 -- ---- agreement at x
 
@@ -197,7 +193,7 @@ none-from n b (v ∷ ws) e w m = go (formed? n v) refl e (List·Memᴰ·cases-co
     go true a i (inl e) r = rw e (formed-test n v a)
     go true a i (inr l) r = r i w l
 
-pub none-ill : (n : ℕ) (ws : List Word) → firstIll n 0 ws ≡ None → (w : Word) → List·Memᴰ w ws → Formed n w
+pub none-ill : (n : ℕ) (ws : List Word) → firstIll n 0 ws ≡ None → AllFormed n ws
 none-ill n ws = none-from n 0 ws
 
 pub formed-none : (n b : ℕ) (ws : List Word) → AllFormed n ws → firstIll n b ws ≡ None

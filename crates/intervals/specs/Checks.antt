@@ -1,7 +1,8 @@
 -- Checking a list of ternary words against an interval (document 01, "Checking a list").
 use mathlib.Core.Bool.{Bool, Bool·beq, _&&_}
 use mathlib.Core.List.{List, [], _∷_}
-use Prim.Native.Nat.{ℕ, zero, suc, _+_, _*_, _/_, _^_}
+use mathlib.Core.Logic.{_⊎_}
+use Prim.Native.Nat.{ℕ, zero, suc, _+_, _*_, _/_, _^_, _≤_}
 use lib.Dec.{leb, ltb}
 use lib.ListN.{getD, length}
 use Rattle.answers.specs.Answers.{behindIll, done, refused}
@@ -11,7 +12,7 @@ use Rattle.answers.specs.declared.Lowest.{Lowest}
 use Rattle.answers.specs.declared.Lowest.the-variants.{None, At}
 use Rattle.bits.specs.Choice.{if_then_else_}
 use Rattle.blocks.specs.Tests.{formed?, some?}
-use Rattle.blocks.specs.Words.{word}
+use Rattle.blocks.specs.Words.{Some, word}
 use Rattle.blocks.specs.declared.Word.{Word}
 use Rattle.intervals.specs.Ends.{behind, numberOf, tested}
 use Rattle.intervals.specs.declared.checks.Checked.{Checked}
@@ -34,7 +35,11 @@ unfoldable pub wordsFrom : ℕ → ℕ → List ℕ → List Word
 wordsFrom i zero l = []
 wordsFrom i (suc k) l = wordAt l i ∷ wordsFrom (i + 1) k l
 
--- x is in the interval exactly when some word matches it
+-- x is in the interval and no word matches it, or the other way round
+abbrev pub Disagree : ℕ → ℕ → List Word → ℕ → Type 0
+Disagree low high ws x = (((low ≤ x) × (x ≤ high)) × (Some ws x → ⊥)) ⊎ (((low ≤ x) × (x ≤ high) → ⊥) × Some ws x)
+
+-- and whether they agree, as a test: x is in the interval exactly when some word matches it
 abbrev pub agree? : ℕ → ℕ → List Word → ℕ → Bool
 agree? low high ws x = Bool·beq (leb low x && leb x high) (some? ws x)
 

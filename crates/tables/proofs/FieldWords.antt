@@ -14,10 +14,10 @@ use Rattle.blocks.proofs.Agreement.{value-match}
 use Rattle.blocks.proofs.Covers.{disjoint, exact}
 use Rattle.blocks.proofs.Matching.{mask-keeps, prefix-formed}
 use Rattle.blocks.proofs.Members.{tiles-list}
-use Rattle.blocks.proofs.Testing.{AllFormed, some-test, test-some}
+use Rattle.blocks.proofs.Testing.{some-test, test-some}
 use Rattle.blocks.specs.Blocks.{blocksOf, prefixOf, wordsOf}
 use Rattle.blocks.specs.Tests.{matches?, some?}
-use Rattle.blocks.specs.Words.{Disjoint, Formed}
+use Rattle.blocks.specs.Words.{AllFormed, Disjoint, Formed}
 use Rattle.blocks.specs.declared.Word.{Word}
 use Rattle.entries.specs.Words.{addrWord, protoWord, protoWords}
 use Rattle.records.specs.declared.Rule.{Rule}

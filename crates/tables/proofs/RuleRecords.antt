@@ -7,7 +7,7 @@ use Prim.Native.Nat.{ℕ}
 use lib.Bits.{bitAnd}
 use borrow.Author.Tests.{eq-eqb}
 use Rattle.blocks.proofs.Agreement.{formed-and}
-use Rattle.blocks.proofs.Testing.{AllFormed}
+use Rattle.blocks.specs.Words.{AllFormed}
 use Rattle.blocks.specs.declared.Word.{Word}
 use Rattle.entries.specs.Words.{destWords, each, entryWith, protoWords, ruleEntries, sourceWords}
 use Rattle.records.specs.Entries.{Entry}
