@@ -3,7 +3,7 @@
 use mathlib.Core.Bool.{Bool, true, false, _&&_}
 use mathlib.Core.List.{List, [], _∷_}
 use mathlib.Core.Path.{_≡_, refl}
-use Prim.Native.Nat.{ℕ}
+use Prim.Native.Nat.{ℕ, _/_}
 use lib.Count.{ones}
 use lib.Dec.{eqb}
 use lib.IntN.{ℤ, pos, negsuc}
@@ -64,12 +64,16 @@ is r s = same (r .no ∷ r .a ∷ r .b ∷ r .c ∷ r .d ∷ []) (s .no ∷ s .a
 has : ℕ → ℕ → ℕ → ℕ → Bool
 has n low high k = is (counting n low high) (done k 0 0 0) && eqb (length (blocksOf n low high)) k
 
+-- these are the numbers, and they are counted: two to a word
+lists : ℕ → ℕ → ℕ → List ℕ → Bool
+lists n low high ns = same (numbersOf n low high) ns && has n low high (length ns / 2)
+
 right : Case → Bool
 right (words n low high k) = has n low high k
-right (list n low high ns) = same (numbersOf n low high) ns
+right (list n low high ns) = lists n low high ns
 right (bounds n a b low high) = is (closing n a b) (done low high 0 0)
 right (bounds-words n a b k) = eqb (closing n a b .no) 0 && has n (closing n a b .a) (closing n a b .b) k
-right (bounds-list n a b ns) = eqb (closing n a b .no) 0 && same (numbersOf n (closing n a b .a) (closing n a b .b)) ns
+right (bounds-list n a b ns) = eqb (closing n a b .no) 0 && lists n (closing n a b .a) (closing n a b .b) ns
 right (bounds-refused n a b r) = is (closing n a b) (refused r 0 0)
 
 pub every : List Case → Bool
@@ -77,5 +81,5 @@ every [] = true
 every (c ∷ cs) = right c && every cs
 
 pub starred-hold : every starred ≡ true
-unfolding every right starred same is has closing counting behind tested countOf topDiffer ones tiles numbers
+unfolding every right starred same is has lists closing counting behind tested countOf topDiffer ones tiles numbers
 starred-hold = refl
