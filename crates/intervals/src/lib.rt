@@ -18,8 +18,6 @@ pub use bounds::close;
 pub use checks::Checked;
 pub use checks::check;
 pub use ends::Fault;
-pub use ends::Tested;
-pub use ends::test_ends;
 pub use lists::Counted;
 pub use lists::Listed;
 pub use lists::count;
