@@ -17,18 +17,11 @@ use Rattle.bits.specs.Choice.{if_then_else_}
 use Rattle.blocks.specs.Blocks.{Closed}
 use Rattle.blocks.specs.Words.{AllFormed, Exactly}
 use Rattle.intervals.specs.Checks.{Disagree, checking, firstIll, judged, verdict, wordsFrom}
-use Rattle.intervals.specs.Ends.{behind, numberOf, tested}
-use Rattle.intervals.specs.declared.ends.Fault.{Fault}
-use Rattle.intervals.specs.declared.ends.Fault.the-variants.{Width, Fit, Order}
+use Rattle.intervals.specs.Ends.{behind, tested}
 use Rattle.intervals.specs.declared.ends.Tested.{Tested}
 use Rattle.intervals.specs.declared.ends.Tested.the-variants.{Good, Bad}
-use Rattle.intervals.proofs.Testing.{good-tested, tested-good}
+use Rattle.intervals.proofs.Testing.{fault-some, good-tested, tested-good}
 use Rattle.intervals.proofs.Verdicts.{formed-none, none-ill, verdict-either, verdict-no, verdict-yes, yes-verdict}
-
-fault-some : (f : Fault) → numberOf f ≡ 0 → ⊥
-fault-some Width e = omega arith
-fault-some Fit e = omega arith
-fault-some Order e = omega arith
 
 -- a check that is not refused: the interval and the words were good, and the answer is the verdict on them
 record Judged (n low high : ℕ) (l : List ℕ) (k : ℕ) (r : Answer) : Type 0 where

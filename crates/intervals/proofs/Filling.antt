@@ -1,6 +1,5 @@
 -- Counting and listing: what a list holds as it is filled, and what is answered at each return. Assumes nothing.
 use mathlib.Core.List.{List, [], _∷_, _++_, append-assoc, append-nil, map}
-use mathlib.Core.Bool.{false}
 use mathlib.Core.Path.{_≡_, refl, sym, ap, ap₂, _∙_}
 use Prim.Native.Nat.{ℕ, suc, _+_, _*_, _^_, _≤_, _<_}
 use native.Mathlib.Numerals.{add-one, add-two}
@@ -8,12 +7,12 @@ use native.Mathlib.Omega.{arith}
 use lib.Dec.{eqb}
 use lib.ListN.{length, length-map, length-set, take, drop, set, take-append-drop}
 use lib.Seq.{take-suc-set, drop-set-lt, length-take-le, drop-drop}
-use borrow.Author.Tests.{lt-ltb, le-ltb}
+use borrow.Author.Tests.{lt-ltb, le-ltb, ne-eqb}
 use Rattle.answers.specs.Answers.{done, refused}
 use Rattle.answers.specs.declared.Answer.{Answer}
 use Rattle.bits.specs.Choice.{if_then_else_}
 use Rattle.bits.specs.Masks.{Power, maskOf}
-use Rattle.blocks.specs.Blocks.{Block, Closed, block, prefixOf, tiles}
+use Rattle.blocks.specs.Blocks.{Block, Closed, prefixOf, tiles}
 use Rattle.blocks.specs.Counting.{countOf}
 use Rattle.blocks.specs.Lowest.{freeOf}
 use Rattle.blocks.specs.declared.Word.{Word}
@@ -23,10 +22,10 @@ use Rattle.blocks.proofs.Tiles.{tiles-none}
 use Rattle.intervals.specs.Ends.{behind, numberOf, tested}
 use Rattle.intervals.specs.Lists.{Listing, counting, listLeft, listedAs, listing, numbers, numbersOf}
 use Rattle.intervals.specs.declared.ends.Fault.{Fault}
-use Rattle.intervals.specs.declared.ends.Fault.the-variants.{Width, Fit, Order}
 use Rattle.intervals.specs.declared.ends.Tested.the-variants.{Good, Bad}
 use Rattle.intervals.specs.declared.lists.Listed.{Listed}
 use Rattle.intervals.specs.declared.lists.Listed.the-variants.{Words, Room, Refused}
+use Rattle.intervals.proofs.Testing.{fault-some}
 
 -- ---- blocks as numbers
 
@@ -117,11 +116,6 @@ module _ (n low high : ℕ) where
 
 -- ---- the promise of listing at each return
 
-refusal-some : (f : Fault) → eqb (numberOf f) 0 ≡ false
-refusal-some Width = refl
-refusal-some Fit = refl
-refusal-some Order = refl
-
 module _ (n low high : ℕ) (before : List ℕ) where
   -- what a list holds after an answer
   after : Answer → List ℕ
@@ -133,7 +127,7 @@ module _ (n low high : ℕ) (before : List ℕ) where
 
   pub listing-refused : (f : Fault) → tested n low high ≡ Bad f → Listing n low high before (Refused f) before
   unfolding listing behind after
-  listing-refused f e = promise (Refused f) before (simp e) (simp (refusal-some f))
+  listing-refused f e = promise (Refused f) before (simp e) (simp (ne-eqb (numberOf f) 0 (fault-some f)))
 
   pub listing-room : tested n low high ≡ Good → (k : ℕ) → k ≡ countOf n low high → length before < 2 * k → Listing n low high before (Room k) before
   unfolding listing behind after

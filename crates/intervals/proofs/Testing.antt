@@ -1,5 +1,5 @@
--- The tests of an interval: each return of the code is one of their cases, and Good says that the interval is closed.
--- Assumes nothing.
+-- The tests of an interval: each return of the code is one of their cases, Good says that the interval is closed, and no
+-- refusal has the number 0. Assumes nothing.
 use mathlib.Core.Bool.{or-true}
 use mathlib.Core.Logic.{_⊎_, inl, inr}
 use mathlib.Core.Path.{_≡_}
@@ -9,10 +9,16 @@ use lib.Dec.{leb}
 use borrow.Author.Tests.{lt-ltb, le-ltb, le-leb, lt-leb}
 use Rattle.bits.proofs.Orders.{le-or-lt}
 use Rattle.blocks.specs.Blocks.{Closed}
-use Rattle.intervals.specs.Ends.{tested}
+use Rattle.intervals.specs.Ends.{numberOf, tested}
 use Rattle.intervals.specs.declared.ends.Fault.{Fault}
 use Rattle.intervals.specs.declared.ends.Fault.the-variants.{Width, Fit, Order}
 use Rattle.intervals.specs.declared.ends.Tested.the-variants.{Good, Bad}
+
+-- 0 says that nothing was refused
+pub fault-some : (f : Fault) → numberOf f ≡ 0 → ⊥
+fault-some Width e = omega arith
+fault-some Fit e = omega arith
+fault-some Order e = omega arith
 
 module _ (n low high : ℕ) where
   pub tested-narrow : n < 1 → Bad Width ≡ tested n low high
