@@ -55,5 +55,5 @@ module _ (n low high : ℕ) (order : low ≤ high) (fits : high < 2 ^ n) where
   at-most h = count-most n low high h order fits
 
 -- and 1 for n = 1
-pub one-word : (low high : ℕ) → low ≤ high → high < 2 ^ 1 → countOf 1 low high ≡ 1
-one-word = count-one
+pub one-at-width-one : (low high : ℕ) → low ≤ high → high < 2 ^ 1 → countOf 1 low high ≡ 1
+one-at-width-one = count-one
