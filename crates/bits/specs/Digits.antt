@@ -17,7 +17,8 @@ onesBelow s x = ones (x % 2 ^ s)
 abbrev pub zerosBelow : ℕ → ℕ → ℕ
 zerosBelow s x = s - onesBelow s x
 
--- the highest of the k lowest bits at which a and b differ
+-- The highest of the k lowest bits at which a and b differ. It is 0 where none does, which nobody asks: the count of words
+-- takes it of two numbers of which one is smaller.
 unfoldable pub topDiffer : ℕ → ℕ → ℕ → ℕ
 topDiffer zero a b = zero
 topDiffer (suc k) a b = if eqb (bit k a) (bit k b) then topDiffer k a b else k

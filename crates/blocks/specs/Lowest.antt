@@ -9,7 +9,8 @@ use Rattle.bits.specs.Choice.{if_then_else_}
 abbrev pub reaches? : ℕ → ℕ → ℕ → Bool
 reaches? next end k = eqb (next % 2 ^ k) 0 && leb (next + 2 ^ k) end
 
--- the most free bits, n at most, of a block that starts at next, is aligned and ends by end
+-- The most free bits, n at most, of a block that starts at next, is aligned and ends by end. It is 0 where no larger block
+-- does: next alone is always aligned, and ends by end wherever next < end.
 unfoldable pub freeOf : ℕ → ℕ → ℕ → ℕ
 freeOf zero next end = zero
 freeOf (suc k) next end = if reaches? next end (suc k) then suc k else freeOf k next end

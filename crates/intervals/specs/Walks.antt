@@ -64,6 +64,8 @@ stepping w =
     if w .ended then record { no = 0; given = 0; word = zeros; walk = w }
     else steppedFrom (tested (w .width) (w .next) (w .last)) w
 
+-- What a step adds: its word in front of those that later steps give, where it gave one. Where it gave none (0) the walk came
+-- back as it was, so no later step gives one either.
 abbrev pub wordThen : ℕ → Word → List Word → List Word
 wordThen zero v vs = []
 wordThen (suc g) v vs = v ∷ vs
