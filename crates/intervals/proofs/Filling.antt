@@ -9,6 +9,7 @@ use lib.ListN.{length, length-map, length-set, take, drop, set, take-append-drop
 use lib.Seq.{take-suc-set, drop-set-lt, length-take-le, drop-drop}
 use borrow.Author.Tests.{lt-ltb, le-ltb, ne-eqb}
 use Rattle.answers.specs.Answers.{done, refused}
+use Rattle.answers.specs.Refusals as refusal
 use Rattle.answers.specs.declared.Answer.{Answer}
 use Rattle.bits.specs.Choice.{if_then_else_}
 use Rattle.bits.specs.Masks.{Power, maskOf}
@@ -20,11 +21,9 @@ use Rattle.blocks.proofs.Lengths.{count-tiles}
 use Rattle.blocks.proofs.Lowest.{first-block, free-end}
 use Rattle.blocks.proofs.Tiles.{tiles-none}
 use Rattle.intervals.specs.Ends.{behind, numberOf, tested}
-use Rattle.intervals.specs.Lists.{Listing, counting, listLeft, listedAs, listing, numbers, numbersOf}
+use Rattle.intervals.specs.Lists.{Listing, counting, listLeft, listing, numbers, numbersOf}
 use Rattle.intervals.specs.declared.ends.Fault.{Fault}
 use Rattle.intervals.specs.declared.ends.Tested.the-variants.{Good, Bad}
-use Rattle.intervals.specs.declared.lists.Listed.{Listed}
-use Rattle.intervals.specs.declared.lists.Listed.the-variants.{Words, Room, Refused}
 use Rattle.intervals.proofs.Testing.{fault-some}
 
 -- ---- blocks as numbers
@@ -121,19 +120,19 @@ module _ (n low high : ℕ) (before : List ℕ) where
   after : Answer → List ℕ
   after a = if eqb (a .no) 0 then numbersOf n low high ++ drop (length (numbersOf n low high)) before else before
 
-  promise : (r : Listed) (l : List ℕ) → listedAs r ≡ listing n low high (length before) → l ≡ after (listedAs r) → Listing n low high before r l
+  promise : (r : Answer) (l : List ℕ) → r ≡ listing n low high (length before) → l ≡ after r → Listing n low high before r l
   unfolding listLeft after
   promise r l e h = record { says = e; leaves = h ∙ ap after e }
 
-  pub listing-refused : (f : Fault) → tested n low high ≡ Bad f → Listing n low high before (Refused f) before
+  pub listing-refused : (f : Fault) → tested n low high ≡ Bad f → Listing n low high before (refused (numberOf f) 0 0) before
   unfolding listing behind after
-  listing-refused f e = promise (Refused f) before (simp e) (simp (ne-eqb (numberOf f) 0 (fault-some f)))
+  listing-refused f e = promise (refused (numberOf f) 0 0) before (simp e) (simp (ne-eqb (numberOf f) 0 (fault-some f)))
 
-  pub listing-room : tested n low high ≡ Good → (k : ℕ) → k ≡ countOf n low high → length before < 2 * k → Listing n low high before (Room k) before
+  pub listing-room : tested n low high ≡ Good → (k : ℕ) → k ≡ countOf n low high → length before < 2 * k → Listing n low high before (refused refusal.room k 0) before
   unfolding listing behind after
-  listing-room e k ek h = promise (Room k) before (simp (e, ← ek, lt-ltb (length before) (2 * k) h)) refl
+  listing-room e k ek h = promise (refused refusal.room k 0) before (simp (e, ← ek, lt-ltb (length before) (2 * k) h)) refl
 
   pub listing-words : tested n low high ≡ Good → (k : ℕ) → k ≡ countOf n low high → 2 * k ≤ length before
-      → (l : List ℕ) → l ≡ numbersOf n low high ++ drop (length (numbersOf n low high)) before → Listing n low high before (Words k) l
+      → (l : List ℕ) → l ≡ numbersOf n low high ++ drop (length (numbersOf n low high)) before → Listing n low high before (done k 0 0 0) l
   unfolding listing behind after
-  listing-words e k ek h l el = promise (Words k) l (simp (e, ← ek, le-ltb (length before) (2 * k) h)) el
+  listing-words e k ek h l el = promise (done k 0 0 0) l (simp (e, ← ek, le-ltb (length before) (2 * k) h)) el

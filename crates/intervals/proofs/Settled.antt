@@ -5,6 +5,7 @@ use mathlib.Core.Path.{_≡_, refl, sym, _∙_}
 use Prim.Native.Nat.{ℕ}
 use lib.Dec.{eqb}
 use lib.IntN.{ℤ}
+use lib.ListN.{length}
 use Rattle.answers.proofs.ReadBack.{back}
 use Rattle.answers.specs.Refusals as refusal
 use Rattle.answers.specs.declared.Answer.{Answer}
@@ -12,7 +13,7 @@ use Rattle.bits.specs.Choice.{if_then_else_}
 use Rattle.blocks.specs.declared.Word.{Word}
 use Rattle.intervals.specs.Bounds.{closedAs, closing}
 use Rattle.intervals.specs.Checks.{checkedAs, checking}
-use Rattle.intervals.specs.Lists.{Listing, countedAs, counting, listedAs}
+use Rattle.intervals.specs.Lists.{Listing, countedAs, counting, listedAs, listing}
 use Rattle.intervals.specs.Walks.{Stepped, steppedAs, steppedBy, stepping}
 use Rattle.intervals.specs.declared.bounds.Closed.{Closed}
 use Rattle.intervals.specs.declared.bounds.Closed.the-variants as closed
@@ -110,9 +111,9 @@ pub one-count : (n low high : ℕ) (r s : Counted) → countedAs r ≡ counting 
 one-count n low high = back countedAs countedFrom counted-back (counting n low high)
 
 pub one-list : (n low high : ℕ) (before : List ℕ) (r s : Listed) (x y : List ℕ)
-    → Listing n low high before r x → Listing n low high before s y → (r ≡ s) × (x ≡ y)
+    → Listing n low high before (listedAs r) x → Listing n low high before (listedAs s) y → (r ≡ s) × (x ≡ y)
 one-list n low high before r s x y p q =
-    (back listedAs listedFrom listed-back (listedAs s) r s (p .says ∙ sym (q .says)) refl, p .leaves ∙ sym (q .leaves))
+    (back listedAs listedFrom listed-back (listing n low high (length before)) r s (p .says) (q .says), p .leaves ∙ sym (q .leaves))
 
 pub one-step : (w : Walk) (r s : Step) → steppedAs r ≡ stepping w → steppedAs s ≡ stepping w → r ≡ s
 one-step w = back steppedAs stepFrom (λ (s : Step). step-back (s .gave) (s .word) (s .walk)) (stepping w)

@@ -51,7 +51,7 @@ listLeft n low high before =
     let ws = numbersOf n low high in
     if eqb (listing n low high (length before) .no) 0 then ws ++ drop (length ws) before else before
 
--- the promise of `list`
-pub record Listing (n low high : ℕ) (before : List ℕ) (r : Listed) (after : List ℕ) : Type 0 where
-  pub says : listedAs r ≡ listing n low high (length before)
+-- the promise of `list`: what is answered, and what the lent list holds afterwards
+pub record Listing (n low high : ℕ) (before : List ℕ) (r : Answer) (after : List ℕ) : Type 0 where
+  pub says : r ≡ listing n low high (length before)
   pub leaves : after ≡ listLeft n low high before

@@ -4,7 +4,7 @@ ghost use mathlib.Core.Path.{_≡_};
 ghost use Prim.Native.Nat.{_≤_};
 ghost use lib.ListN.{drop, length};
 ghost use Rattle.blocks.specs.Blocks.{Closed};
-ghost use Rattle.intervals.specs.Lists.{Listing, countedAs, counting, numbersOf};
+ghost use Rattle.intervals.specs.Lists.{Listing, countedAs, counting, listedAs, numbersOf};
 use crate::ends::Fault;
 use crate::ends::Tested;
 use crate::ends::test_ends;
@@ -51,7 +51,7 @@ fn fill(n: u32, low: u32, high: u32, out: &mut [u16])
 // Lists a closed interval where there is room.
 fn list_good(n: u32, low: u32, high: u32, out: &mut [u16]) -> Listed
     requires { ⌜ Closed n low high ⌝ }
-    ensures { λ r. ⌜ Listing n low high (now (out .entry)) r (now (out .exit)) ⌝ }
+    ensures { λ r. ⌜ Listing n low high (now (out .entry)) (listedAs r) (now (out .exit)) ⌝ }
 {
     let k = blocks::count(n, low, high);
     if out.len() < 2 * (k as usize) {
@@ -62,7 +62,7 @@ fn list_good(n: u32, low: u32, high: u32, out: &mut [u16]) -> Listed
 }
 
 pub fn list(n: u32, low: u32, high: u32, out: &mut [u16]) -> Listed
-    ensures { λ r. ⌜ Listing n low high (now (out .entry)) r (now (out .exit)) ⌝ }
+    ensures { λ r. ⌜ Listing n low high (now (out .entry)) (listedAs r) (now (out .exit)) ⌝ }
 {
     match test_ends(n, low, high) {
         Tested::Bad(f) => Listed::Refused(f),
