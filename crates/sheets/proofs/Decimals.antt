@@ -12,19 +12,11 @@ use Rattle.bits.proofs.Orders.{le-or-lt}
 use Rattle.bits.specs.Choice.{if_then_else_}
 use Rattle.sheets.specs.Cuts.{times}
 use Rattle.sheets.specs.Numbers.{digit?, none, numberAfter, numberOf}
+use Rattle.texts.proofs.Digits.{decimal-last, decimal-more, digits-last, digits-more}
 use Rattle.texts.specs.Decimal.{decimal, digitsOf}
 use Rattle.sheets.proofs.Marks.{times-append}
 
 -- ---- the digits of a number
-
-module _ (f x : ℕ) where
-  digits-one : x < 10 → digitsOf (suc f) x ≡ (48 + x % 10) ∷ []
-  unfolding digitsOf
-  digits-one h = rw (lt-ltb x 10 h)
-
-  digits-more : 10 ≤ x → digitsOf (suc f) x ≡ digitsOf f (x / 10) ++ ((48 + x % 10) ∷ [])
-  unfolding digitsOf
-  digits-more h = rw (le-ltb x 10 h)
 
 -- the first of them
 first-more : (s t : List ℕ) → 48 < getD s 0 0 → 48 < getD (s ++ t) 0 0
@@ -37,19 +29,7 @@ first-digit (suc f) x p h = go (le-or-lt 10 x) (first-digit f (x / 10))
   where
     go : (10 ≤ x) ⊎ (x < 10) → (0 < x / 10 → x / 10 < 10 ^ f → 48 < getD (digitsOf f (x / 10)) 0 0) → 48 < getD (digitsOf (suc f) x) 0 0
     go (inl m) r = rw (digits-more f x m) (first-more (digitsOf f (x / 10)) ((48 + x % 10) ∷ []) (r (omega arith) (omega arith)))
-    go (inr m) r = rw (digits-one f x m) (omega arith)
-
--- as many as are needed, and no more
-digits-enough : (f x : ℕ) → 0 < x → x < 10 ^ f → digitsOf (suc f) x ≡ digitsOf f x
-digits-enough zero x p h = absurd (omega arith)
-digits-enough (suc f) x p h = go (le-or-lt 10 x) (digits-enough f (x / 10))
-  where
-    go : (10 ≤ x) ⊎ (x < 10) → (0 < x / 10 → x / 10 < 10 ^ f → digitsOf (suc f) (x / 10) ≡ digitsOf f (x / 10)) → digitsOf (suc (suc f)) x ≡ digitsOf (suc f) x
-    go (inl m) r =
-        digits-more (suc f) x m
-        ∙ ap (λ (s : List ℕ). s ++ ((48 + x % 10) ∷ [])) (r (omega arith) (omega arith))
-        ∙ sym (digits-more f x m)
-    go (inr m) r = digits-one (suc f) x m ∙ sym (digits-one f x m)
+    go (inr m) r = rw (digits-last f x m) (omega arith)
 
 module _ (c : ℕ) (low : c < 48) where
   digits-without : (f x : ℕ) → times c (digitsOf f x) ≡ 0
@@ -65,7 +45,7 @@ module _ (c : ℕ) (low : c < 48) where
           ap (times c) (digits-more f x m)
           ∙ times-append c (digitsOf f (x / 10)) ((48 + x % 10) ∷ [])
           ∙ omega (arith, last)
-      go (inr m) r = ap (times c) (digits-one f x m) ∙ last
+      go (inr m) r = ap (times c) (digits-last f x m) ∙ last
 
   -- a mark below the digits is none of them
   pub decimal-without : (x : ℕ) → times c (decimal x) ≡ 0
@@ -109,7 +89,7 @@ number-digits (suc f) x h l = go (le-or-lt 10 x) (number-digits f (x / 10))
         ∙ number-next (x / 10) (48 + x % 10) [] (omega arith) (omega arith) (omega arith)
         ∙ omega arith
     go (inr m) r =
-        ap (numberAfter 0) (digits-one f x m)
+        ap (numberAfter 0) (digits-last f x m)
         ∙ number-next 0 (48 + x % 10) [] (omega arith) (omega arith) (omega arith)
         ∙ omega arith
 
@@ -136,9 +116,7 @@ decimal-next : (x d : ℕ) → 0 < x → d < 10 → x * 10 + d < 65536 → decim
 decimal-next x d p h l =
     let q : (x * 10 + d) / 10 ≡ x = omega arith in
     let m : (x * 10 + d) % 10 ≡ d = omega arith in
-    digits-more 4 (x * 10 + d) (omega arith)
-    ∙ ap₂ (λ (y z : ℕ). digitsOf 4 y ++ ((48 + z) ∷ [])) q m
-    ∙ ap (λ (s : List ℕ). s ++ ((48 + d) ∷ [])) (sym (digits-enough 4 x p (omega arith)))
+    decimal-more (x * 10 + d) (omega arith) (omega arith) ∙ ap₂ (λ (y z : ℕ). decimal y ++ ((48 + z) ∷ [])) q m
 
 -- c is a digit after which the number stays in range
 record Taken (x c : ℕ) (s : List ℕ) : Type 0 where
@@ -187,7 +165,7 @@ decimal-plain c s n h =
     let e : 48 + (0 * 10 + (c - 48)) % 10 ≡ c = omega arith in
     sym (ap decimal (t .rest)
     ∙ decimal-after (0 * 10 + (c - 48)) s (omega arith) (omega arith)
-    ∙ ap (λ (l : List ℕ). l ++ s) (digits-one 4 (0 * 10 + (c - 48)) (omega arith))
+    ∙ ap (λ (l : List ℕ). l ++ s) (decimal-last (0 * 10 + (c - 48)) (omega arith))
     ∙ ap (λ (y : ℕ). y ∷ s) e)
   where
     go : (c ≤ 48) ⊎ (48 < c) → 48 ≤ c → 0 < c - 48

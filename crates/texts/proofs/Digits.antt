@@ -12,11 +12,11 @@ use Rattle.texts.specs.Decimal.{decimal, digitsOf}
 
 -- ---- one digit, and more
 
-digits-last : (f x : ℕ) → x < 10 → digitsOf (suc f) x ≡ (48 + x % 10) ∷ []
+pub digits-last : (f x : ℕ) → x < 10 → digitsOf (suc f) x ≡ (48 + x % 10) ∷ []
 unfolding digitsOf
 digits-last f x h = rw (lt-ltb x 10 h)
 
-digits-more : (f x : ℕ) → 10 ≤ x → digitsOf (suc f) x ≡ digitsOf f (x / 10) ++ ((48 + x % 10) ∷ [])
+pub digits-more : (f x : ℕ) → 10 ≤ x → digitsOf (suc f) x ≡ digitsOf f (x / 10) ++ ((48 + x % 10) ∷ [])
 unfolding digitsOf
 digits-more f x h = rw (le-ltb x 10 h)
 
