@@ -6,7 +6,6 @@ pub mod Joining
 pub mod Words
 pub mod Assembling
 pub mod RowFields
-pub mod Copying
 pub mod Rests
 pub mod Passing
 pub mod Ending

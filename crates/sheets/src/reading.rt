@@ -2,8 +2,7 @@
 // enough, so that a refused call changes nothing and the text is gone through once.
 ghost use mathlib.Core.Path.{_≡_};
 ghost use Prim.Native.Nat.{_*_, _≤_};
-ghost use lib.ListN.{length, take};
-ghost use Rattle.fields.specs.Writes.{writeAt};
+ghost use lib.ListN.{length};
 ghost use Rattle.records.specs.Layout.{ruleLimit, ruleSize};
 ghost use Rattle.sheets.specs.Reading.{ReadRows, Reading, many?};
 use crate::cuts::cut;
@@ -43,19 +42,6 @@ fn many(text: &[u8]) -> bool
         k += 1;
     }
     from < text.len()
-}
-
-// Copies the first n bytes.
-fn copy(from: &[u8], n: usize, to: &mut [u8])
-    requires { ⌜ n ≤ length (now from) ⌝ }
-    requires { ⌜ n ≤ length (now to) ⌝ }
-    ensures { λ _. ⌜ now (to .exit) ≡ writeAt (now (to .entry)) 0 (take n (now (from .entry))) ⌝ }
-{
-    let mut i: usize = 0;
-    while i < n {
-        to[i] = from[i];
-        i += 1;
-    }
 }
 
 // Reads the lines of a text, writes the rule of each into held, and stops at the first that is bad.
@@ -109,7 +95,7 @@ pub fn read(text: &[u8], rules: &mut [u8]) -> Sheet
             if rules.len() < bytes {
                 return Sheet::Room(bytes as u32);
             }
-            copy(&held, bytes, rules);
+            texts::put_text(rules, 0, &held[..bytes]);
             Sheet::Rules(n)
         }
     }

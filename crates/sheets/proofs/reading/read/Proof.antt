@@ -1,6 +1,9 @@
 -- `sheets::reading::read` meets its contract: each return answers what the tests before it say. Assumes nothing.
 use borrow.Author.Needs.{needs}
+use mathlib.Core.Path.{sym}
 use native.Mathlib.Omega.{arith}
+use lib.ListN.{length-take}
+use lib.Seq.{length-take-le}
 use Rattle.sheets.proofs.Verdicts.{rules-few, sheet-bad, sheet-long, sheet-many, sheet-room, sheet-rules}
 use Rattle.sheets.proofs.reading.read.Statement.{statement}
 use Rattle.sheets.proofs.reading.read.Tie as tie
@@ -40,13 +43,16 @@ returns-3 c =
     let a = c .before .before .before .before .before in
     sheet-room _ _ (omega arith) _ (a .before .before .before .many .ensures) (a .before .before .if2 .left) _ _ _ (a .read-rows .ensures) _ (c .before .before .n .given .1) (c .if3 .taken)
 
-slice-aggregate-copy : tie.Need-slice-aggregate-copy
-slice-aggregate-copy c = search needs
+array-share-prefix-held : tie.Need-array-share-prefix-held
+array-share-prefix-held c = omega (arith, rules-few _ _ _ _ _ (c .before .before .before .before .before .before .read-rows .ensures) (c .before .before .before .n .given .1))
 
-copy-requires : tie.Need-copy-requires
-copy-requires c κs =
+slice-aggregate-put-text : tie.Need-slice-aggregate-put-text
+slice-aggregate-put-text c =
     let r = c .before .before .before .before .before .before .before .read-rows in
-    (omega (arith, rules-few _ _ _ _ _ (r .ensures) (c .before .before .before .before .n .given .1), r .kept .1 .0), omega arith)
+    sym (length-take-le _ (r .last .1 .0) (omega (arith, rules-few _ _ _ _ _ (r .ensures) (c .before .before .before .before .n .given .1), r .kept .1 .0)))
+
+put-text-requires : tie.Need-put-text-requires
+put-text-requires c κs = simp length-take (omega arith)
 
 returns-4 : tie.Need-returns-4
 returns-4 c =
@@ -59,7 +65,7 @@ same-length c = search needs
 returns-5 : tie.Need-returns-5
 returns-5 c =
     let a = c .before .before .before .before .before .before .before .before .before .before in
-    sheet-rules _ _ (omega arith) _ (a .before .before .before .many .ensures) (a .before .before .if2 .left) _ _ _ (a .read-rows .ensures) _ (c .before .before .before .before .before .before .before .n .given .1) (c .before .before .before .before .before .if3 .left) _ (c .before .before .copy .ensures)
+    sheet-rules _ _ (omega arith) _ (a .before .before .before .many .ensures) (a .before .before .if2 .left) _ _ _ (a .read-rows .ensures) _ (c .before .before .before .before .before .before .before .n .given .1) (c .before .before .before .before .before .if3 .left) _ (c .before .before .put-text .ensures .leaves)
 
 pub read-spec : {M : Type 1} → statement M
 read-spec =
@@ -76,8 +82,9 @@ read-spec =
     mul-bytes
     cast-t17
     returns-3
-    slice-aggregate-copy
-    copy-requires
+    array-share-prefix-held
+    slice-aggregate-put-text
+    put-text-requires
     returns-4
     same-length
     returns-5)
