@@ -11,7 +11,7 @@ use Rattle.rules.specs.Faults.{beyond?}
 use Rattle.sheets.specs.Cuts.{after, before, times}
 use Rattle.sheets.specs.Numbers.{numberOf}
 use Rattle.sheets.specs.Parts.{addressOf, badAddress, bitsOf, dot, joined, slash}
-use Rattle.sheets.specs.Text.{addressText}
+use Rattle.sheets.specs.Text.{AddressSaid, addressText}
 use Rattle.sheets.specs.declared.parts.Address.{Address}
 use Rattle.texts.specs.Decimal.{decimal}
 use Rattle.sheets.proofs.Decimals.{decimal-number, decimal-without, number-decimal}
@@ -127,13 +127,6 @@ address-text a len h l w =
       within = rw e w;
     })
     ∙ ap (λ (x : ℕ). goodAddress x len) e)
-
--- s is the text of this address, which is in range
-pub record AddressSaid (s : List ℕ) (a : Address) : Type 0 where
-  pub text : s ≡ addressText (a .bits) (a .len)
-  pub fits : a .bits < 2 ^ 32
-  pub short : a .len ≤ 32
-  pub within : beyond? (a .bits) (a .len) ≡ false
 
 some-before : (c : ℕ) (s : List ℕ) → numberOf (before c s) < 65536 → s ≡ [] → ⊥
 unfolding before

@@ -12,8 +12,7 @@ use Rattle.bits.specs.Choice.{if_then_else_}
 use Rattle.sheets.specs.Cuts.{after, before, same?, times}
 use Rattle.sheets.specs.Numbers.{none, numberAfter, numberOf}
 use Rattle.sheets.specs.Parts.{actionOf, any, badPorts, dash, paired, portsOf, protocolOf, star}
-use Rattle.sheets.specs.Text.{portsText}
-use Rattle.sheets.specs.declared.parts.Ports.{Ports}
+use Rattle.sheets.specs.Text.{PortsSaid, portsText, protocolText}
 use Rattle.texts.specs.Decimal.{decimal}
 use Rattle.texts.specs.Lines.{actionText, deny, denyLog, permit, permitLog}
 use Rattle.sheets.proofs.Decimals.{decimal-number, decimal-without, number-decimal}
@@ -54,15 +53,12 @@ above-without c (x ∷ s) h e =
 
 -- ---- the protocol
 
-abbrev pub protoText : ℕ → ℕ → List ℕ
-protoText flag proto = if eqb flag 1 then star else decimal proto
-
-pub protocol-said : (s : List ℕ) → protocolOf s ≤ any → s ≡ protoText (protocolOf s / 256) (protocolOf s % 256)
+pub protocol-said : (s : List ℕ) → protocolOf s ≤ any → s ≡ protocolText (protocolOf s / 256) (protocolOf s % 256)
 unfolding protocolOf
 protocol-said s h = go (same? s star) (leb (numberOf s) 255) refl refl h
   where
     go : (a b : Bool) → same? s star ≡ a → leb (numberOf s) 255 ≡ b → (if a then any else if b then numberOf s else none) ≤ any
-        → s ≡ protoText ((if a then any else if b then numberOf s else none) / 256) ((if a then any else if b then numberOf s else none) % 256)
+        → s ≡ protocolText ((if a then any else if b then numberOf s else none) / 256) ((if a then any else if b then numberOf s else none) % 256)
     go true b y z l = same-true s star y
     go false true y z l =
         let p = leb-true (numberOf s) 255 z in
@@ -78,11 +74,11 @@ protocol-number s h = go (same? s star) refl
     go true y = absurd (omega (arith, ap numberOf (same-true s star y)))
     go false y = rw (le-leb (numberOf s) 255 h)
 
-pub protocol-text : (flag proto : ℕ) → flag ≤ 1 → (flag ≡ 1 → proto ≡ 0) → proto < 256 → protocolOf (protoText flag proto) ≡ flag * 256 + proto
+pub protocol-text : (flag proto : ℕ) → flag ≤ 1 → (flag ≡ 1 → proto ≡ 0) → proto < 256 → protocolOf (protocolText flag proto) ≡ flag * 256 + proto
 unfolding protocolOf same?
 protocol-text flag proto l z h = go (le-or-lt 1 flag)
   where
-    go : (1 ≤ flag) ⊎ (flag < 1) → protocolOf (protoText flag proto) ≡ flag * 256 + proto
+    go : (1 ≤ flag) ⊎ (flag < 1) → protocolOf (protocolText flag proto) ≡ flag * 256 + proto
     go (inl a) =
         let f : flag ≡ 1 = omega arith in
         ap (λ (b : Bool). protocolOf (if b then star else decimal proto)) (eq-eqb flag 1 f) ∙ omega (arith, z f)
@@ -92,7 +88,7 @@ protocol-text flag proto l z h = go (le-or-lt 1 flag)
         ∙ protocol-number (decimal proto) (omega arith)
         ∙ omega arith
 
-pub protocol-without : (c flag proto : ℕ) → c < 42 → times c (protoText flag proto) ≡ 0
+pub protocol-without : (c flag proto : ℕ) → c < 42 → times c (protocolText flag proto) ≡ 0
 unfolding above?
 protocol-without c flag proto h = go (eqb flag 1)
   where
@@ -101,12 +97,6 @@ protocol-without c flag proto h = go (eqb flag 1)
     go false = decimal-without c (omega arith) proto
 
 -- ---- ports
-
--- s is the text of these ports, which are in range
-pub record PortsSaid (s : List ℕ) (p : Ports) : Type 0 where
-  pub text : s ≡ portsText (p .low) (p .high)
-  pub order : p .low ≤ p .high
-  pub fits : p .high < 65536
 
 pub ports-said : (s : List ℕ) → portsOf s .good ≡ true → PortsSaid s (portsOf s)
 unfolding portsOf paired

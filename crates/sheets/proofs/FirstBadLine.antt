@@ -1,9 +1,8 @@
 -- The line that a refusal names is the first that is not the text of a good rule, ended by a line feed. Assumes nothing.
 use mathlib.Core.Bool.{Bool, true, false}
-use mathlib.Core.List.{List, _++_}
-use mathlib.Core.Logic.{_⊎_}
+use mathlib.Core.List.{List}
 use mathlib.Core.Path.{_≡_, ap, ap₂}
-use Prim.Native.Nat.{ℕ, _+_, _*_}
+use Prim.Native.Nat.{ℕ, _*_}
 use native.Mathlib.Omega.{arith}
 use lib.Dec.{ltb}
 use lib.ListN.{length}
@@ -13,22 +12,15 @@ use Rattle.answers.specs.declared.Answer.{Answer}
 use Rattle.bits.specs.Choice.{if_then_else_}
 use Rattle.records.specs.Layout.{ruleLimit, ruleSize}
 use Rattle.records.specs.declared.Rule.{Rule}
+use Rattle.sheets.specs.BadLines.{FirstBadLine, Wrong}
 use Rattle.sheets.specs.Cuts.{before}
 use Rattle.sheets.specs.Reading.{behindRows, many?, reading, rowsOf, rulesRead, sheetLimit}
-use Rattle.sheets.specs.Text.{AllGood, GoodRule, ruleText, sheetText}
+use Rattle.sheets.specs.Text.{GoodRule, ruleText}
 use Rattle.sheets.specs.declared.rows.Rows.{Rows}
 use Rattle.sheets.specs.declared.rows.Rows.the-variants as rows
 use Rattle.sheets.proofs.RowText.{row-text}
-use Rattle.sheets.proofs.Unread.{Unended, Wrong, parts, unread}
+use Rattle.sheets.proofs.Unread.{parts, unread}
 use Rattle.texts.specs.Lines.{lineFeed}
-
--- the text of the good rules rs comes first in s, and the line after it, of this number, is bad at this field
-pub record FirstBadLine (s : List ℕ) (rs : List Rule) (line field : ℕ) : Type 0 where
-  pub rest : List ℕ
-  pub text : s ≡ sheetText rs ++ rest
-  pub good : AllGood rs
-  pub number : line ≡ length rs + 1
-  pub bad : Unended rest field ⊎ Wrong rest field
 
 pub bad-line : (s : List ℕ) (line field : ℕ) → rowsOf ruleLimit 0 s ≡ rows.Bad line field → FirstBadLine s (rulesRead ruleLimit s) line field
 bad-line s line field e =

@@ -16,14 +16,14 @@ use Rattle.rules.specs.Faults.{spare?}
 use Rattle.sheets.specs.Cuts.{after, before, times}
 use Rattle.sheets.specs.Parts.{actionOf, addressOf, any, portsOf, protocolOf}
 use Rattle.sheets.specs.Rows.{rowFrom, rowOf, ruleOf}
-use Rattle.sheets.specs.Text.{GoodRule, addressText, portsText, protocolText, ruleText}
+use Rattle.sheets.specs.Text.{AddressSaid, GoodRule, PortsSaid, addressText, portsText, protocolText, ruleText}
 use Rattle.sheets.specs.declared.parts.Address.{Address}
 use Rattle.sheets.specs.declared.parts.Ports.{Ports}
 use Rattle.sheets.specs.declared.rows.Row.{Row}
 use Rattle.sheets.specs.declared.rows.Row.the-variants.{Good, Bad}
 use Rattle.texts.specs.Lines.{actionText, lineFeed, tab}
-use Rattle.sheets.proofs.AddressText.{AddressSaid, address-said, address-text, address-without}
-use Rattle.sheets.proofs.FieldText.{PortsSaid, action-said, action-text, action-without, ports-said, ports-text, ports-without, protocol-said, protocol-text, protocol-without}
+use Rattle.sheets.proofs.AddressText.{address-said, address-text, address-without}
+use Rattle.sheets.proofs.FieldText.{action-said, action-text, action-without, ports-said, ports-text, ports-without, protocol-said, protocol-text, protocol-without}
 use Rattle.sheets.proofs.Marks.{after-mark, before-mark, parted, times-after, times-mark, times-past}
 
 -- ---- six fields and five tabs
@@ -76,7 +76,7 @@ row-text {r} g =
     let f = fine r (g .fine) in
     let e : (r .flag * 256 + r .proto) / 256 ≡ r .flag = omega arith in
     let m : (r .flag * 256 + r .proto) % 256 ≡ r .proto = omega arith in
-    row-parts (protocolText r) (addressText (r .src) (r .slen)) (addressText (r .dst) (r .dlen)) (portsText (r .slow) (r .shigh))
+    row-parts (protocolText (r .flag) (r .proto)) (addressText (r .src) (r .slen)) (addressText (r .dst) (r .dlen)) (portsText (r .slow) (r .shigh))
     (portsText (r .dlow) (r .dhigh)) (actionText (r .action))
     (protocol-without tab (r .flag) (r .proto) (omega arith))
     (address-without tab (r .src) (r .slen) (omega arith))
@@ -100,7 +100,7 @@ row-text {r} g =
 pub text-no-feed : {r : Rule} → GoodRule r → times lineFeed (ruleText r) ≡ 0
 unfolding ruleText
 text-no-feed {r} g =
-    past (protocolText r) _ (protocol-without lineFeed (r .flag) (r .proto) (omega arith))
+    past (protocolText (r .flag) (r .proto)) _ (protocol-without lineFeed (r .flag) (r .proto) (omega arith))
     ∙ past (addressText (r .src) (r .slen)) _ (address-without lineFeed (r .src) (r .slen) (omega arith))
     ∙ past (addressText (r .dst) (r .dlen)) _ (address-without lineFeed (r .dst) (r .dlen) (omega arith))
     ∙ past (portsText (r .slow) (r .shigh)) _ (ports-without lineFeed (r .slow) (r .shigh) (omega arith))

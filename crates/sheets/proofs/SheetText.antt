@@ -20,7 +20,7 @@ use Rattle.rules.specs.declared.faults.ListTest.the-variants.{Good}
 use Rattle.sheets.specs.Cuts.{after, before}
 use Rattle.sheets.specs.Reading.{afterLines, behindRows, ended?, many?, reading, rowsOf, rulesRead, sheetLimit}
 use Rattle.sheets.specs.Rows.{rowOf}
-use Rattle.sheets.specs.Text.{AllGood, ruleText, sheetText}
+use Rattle.sheets.specs.Text.{Accepted, AllGood, ruleText, sheetText}
 use Rattle.sheets.specs.declared.rows.Row.the-variants as row
 use Rattle.sheets.specs.declared.rows.Rows.{Rows}
 use Rattle.sheets.specs.declared.rows.Rows.the-variants as rows
@@ -31,13 +31,6 @@ use Rattle.sheets.proofs.Unread.{Parts, lines-none, parts, unread}
 use Rattle.texts.specs.Lines.{lineFeed}
 
 -- ---- a sheet that is accepted
-
--- s is the text of the rules rs, which are good and not too many
-pub record Accepted (s : List ℕ) (rs : List Rule) : Type 0 where
-  pub text : s ≡ sheetText rs
-  pub good : AllGood rs
-  pub few : length rs ≤ ruleLimit
-  pub short : length s ≤ sheetLimit
 
 empty : (l : List ℕ) → length l ≤ 0 → l ≡ []
 empty [] h = refl

@@ -11,6 +11,7 @@ use borrow.Author.Tests.{ltb-true, ne-eqb}
 use Rattle.bits.proofs.Orders.{le-or-lt}
 use Rattle.bits.specs.Choice.{if_then_else_}
 use Rattle.records.specs.declared.Rule.{Rule}
+use Rattle.sheets.specs.BadLines.{Unended, Wrong}
 use Rattle.sheets.specs.Cuts.{after, before, times}
 use Rattle.sheets.specs.Reading.{afterLines, ended?, rowThen, rowsOf, ruleThen, rulesRead}
 use Rattle.sheets.specs.Rows.{rowOf}
@@ -35,17 +36,6 @@ unread (suc f) s =
     if ended? s then leftThen (rowOf (before lineFeed s)) rest s else s
 
 -- ---- why the rest was not read
-
--- its first line lacks the line feed
-pub record Unended (rest : List ℕ) (field : ℕ) : Type 0 where
-  pub some : 0 < length rest
-  pub endless : ended? rest ≡ false
-  pub whole : field ≡ 0
-
--- its first line has a bad field, or another number of fields
-pub record Wrong (rest : List ℕ) (field : ℕ) : Type 0 where
-  pub ended : ended? rest ≡ true
-  pub says : rowOf (before lineFeed rest) ≡ row.Bad field
 
 -- what the verdict on f lines from the i-th on says where k rules were read from s
 abbrev Says : ℕ → ℕ → List ℕ → ℕ → List ℕ → Rows → Type 0

@@ -4,3 +4,4 @@ pub mod Parts
 pub mod Rows
 pub mod Reading
 pub mod Text
+pub mod BadLines
