@@ -11,7 +11,7 @@ use Rattle.bits.proofs.Orders.{le-or-lt}
 use Rattle.bits.specs.Choice.{if_then_else_}
 use Rattle.sheets.specs.Cuts.{after, before, same?, times}
 use Rattle.sheets.specs.Numbers.{none, numberAfter, numberOf}
-use Rattle.sheets.specs.Parts.{actionOf, any, badPorts, dash, paired, portsOf, protocolOf, star}
+use Rattle.sheets.specs.Parts.{actionOf, any, badPorts, dash, noAction, paired, portsOf, protocolOf, star}
 use Rattle.sheets.specs.Text.{PortsSaid, portsText, protocolText}
 use Rattle.texts.specs.Decimal.{decimal}
 use Rattle.texts.specs.Lines.{actionText, deny, denyLog, permit, permitLog}
@@ -53,17 +53,17 @@ above-without c (x ∷ s) h e =
 
 -- ---- the protocol
 
-pub protocol-said : (s : List ℕ) → protocolOf s ≤ any → s ≡ protocolText (protocolOf s / 256) (protocolOf s % 256)
+pub protocol-said : (s : List ℕ) → protocolOf s ≤ any → s ≡ protocolText (protocolOf s / any) (protocolOf s % any)
 unfolding protocolOf
 protocol-said s h = go (same? s star) (leb (numberOf s) 255) refl refl h
   where
     go : (a b : Bool) → same? s star ≡ a → leb (numberOf s) 255 ≡ b → (if a then any else if b then numberOf s else none) ≤ any
-        → s ≡ protocolText ((if a then any else if b then numberOf s else none) / 256) ((if a then any else if b then numberOf s else none) % 256)
+        → s ≡ protocolText ((if a then any else if b then numberOf s else none) / any) ((if a then any else if b then numberOf s else none) % any)
     go true b y z l = same-true s star y
     go false true y z l =
         let p = leb-true (numberOf s) 255 z in
-        let q : numberOf s % 256 ≡ numberOf s = omega arith in
-        rw (ne-eqb (numberOf s / 256) 1 (λ (e : numberOf s / 256 ≡ 1). omega arith), q) (decimal-number s (omega arith))
+        let q : numberOf s % any ≡ numberOf s = omega arith in
+        rw (ne-eqb (numberOf s / any) 1 (λ (e : numberOf s / any ≡ 1). omega arith), q) (decimal-number s (omega arith))
     go false false y z l = absurd (omega arith)
 
 protocol-number : (s : List ℕ) → numberOf s ≤ 255 → protocolOf s ≡ numberOf s
@@ -74,11 +74,11 @@ protocol-number s h = go (same? s star) refl
     go true y = absurd (omega (arith, ap numberOf (same-true s star y)))
     go false y = rw (le-leb (numberOf s) 255 h)
 
-pub protocol-text : (flag proto : ℕ) → flag ≤ 1 → (flag ≡ 1 → proto ≡ 0) → proto < 256 → protocolOf (protocolText flag proto) ≡ flag * 256 + proto
+pub protocol-text : (flag proto : ℕ) → flag ≤ 1 → (flag ≡ 1 → proto ≡ 0) → proto < 256 → protocolOf (protocolText flag proto) ≡ flag * any + proto
 unfolding protocolOf same?
 protocol-text flag proto l z h = go (le-or-lt 1 flag)
   where
-    go : (1 ≤ flag) ⊎ (flag < 1) → protocolOf (protocolText flag proto) ≡ flag * 256 + proto
+    go : (1 ≤ flag) ⊎ (flag < 1) → protocolOf (protocolText flag proto) ≡ flag * any + proto
     go (inl a) =
         let f : flag ≡ 1 = omega arith in
         ap (λ (b : Bool). protocolOf (if b then star else decimal proto)) (eq-eqb flag 1 f) ∙ omega (arith, z f)
@@ -146,8 +146,8 @@ unfolding actionOf
 action-said s h = go (same? s permit) (same? s deny) (same? s permitLog) (same? s denyLog) refl refl refl refl h
   where
     go : (a b c d : Bool) → same? s permit ≡ a → same? s deny ≡ b → same? s permitLog ≡ c → same? s denyLog ≡ d
-        → (if a then 0 else if b then 1 else if c then 2 else if d then 3 else 4) ≤ 3
-        → s ≡ actionText (if a then 0 else if b then 1 else if c then 2 else if d then 3 else 4)
+        → (if a then 0 else if b then 1 else if c then 2 else if d then 3 else noAction) ≤ 3
+        → s ≡ actionText (if a then 0 else if b then 1 else if c then 2 else if d then 3 else noAction)
     go true b c d p q r t l = same-true s permit p
     go false true c d p q r t l = same-true s deny q
     go false false true d p q r t l = same-true s permitLog r

@@ -63,10 +63,10 @@ module _ (p q r t u v : List ℕ) (n1 : times tab p ≡ 0) (n2 : times tab q ≡
 
 -- ---- the line of a rule
 
-protocol-most : (flag proto : ℕ) → flag ≤ 1 → (flag ≡ 1 → proto ≡ 0) → proto < 256 → flag * 256 + proto ≤ any
+protocol-most : (flag proto : ℕ) → flag ≤ 1 → (flag ≡ 1 → proto ≡ 0) → proto < 256 → flag * any + proto ≤ any
 protocol-most flag proto l z h = go (le-or-lt 1 flag)
   where
-    go : (1 ≤ flag) ⊎ (flag < 1) → flag * 256 + proto ≤ any
+    go : (1 ≤ flag) ⊎ (flag < 1) → flag * any + proto ≤ any
     go (inl a) = omega (arith, z (omega arith))
     go (inr a) = omega arith
 
@@ -74,8 +74,8 @@ pub row-text : {r : Rule} → GoodRule r → rowOf (ruleText r) ≡ Good r
 unfolding ruleText rowFrom
 row-text {r} g =
     let f = fine r (g .fine) in
-    let e : (r .flag * 256 + r .proto) / 256 ≡ r .flag = omega arith in
-    let m : (r .flag * 256 + r .proto) % 256 ≡ r .proto = omega arith in
+    let e : (r .flag * any + r .proto) / any ≡ r .flag = omega arith in
+    let m : (r .flag * any + r .proto) % any ≡ r .proto = omega arith in
     row-parts (protocolText (r .flag) (r .proto)) (addressText (r .src) (r .slen)) (addressText (r .dst) (r .dlen)) (portsText (r .slow) (r .shigh))
     (portsText (r .dlow) (r .dhigh)) (actionText (r .action))
     (protocol-without tab (r .flag) (r .proto) (omega arith))
@@ -91,7 +91,7 @@ row-text {r} g =
       ports-text (r .slow) (r .shigh) (f .source) (g .shigh),
       ports-text (r .dlow) (r .dhigh) (f .dest) (g .dhigh),
       action-text (r .action) (f .action),
-      le-ltb any (r .flag * 256 + r .proto) (protocol-most (r .flag) (r .proto) (f .flag) (f .spare) (g .proto)),
+      le-ltb any (r .flag * any + r .proto) (protocol-most (r .flag) (r .proto) (f .flag) (f .spare) (g .proto)),
       le-ltb 3 (r .action) (f .action),
       e,
       m,
@@ -159,14 +159,14 @@ fields-good p src dst sports dports act r h =
 -- a rule of good fields is good
 module _ (p : ℕ) (src dst : Address) (sports dports : Ports) (act : ℕ) where
   spare-none : p ≤ any → spare? (ruleOf p src dst sports dports act) ≡ false
-  spare-none h = go (le-or-lt 256 p)
+  spare-none h = go (le-or-lt any p)
     where
-      go : (256 ≤ p) ⊎ (p < 256) → spare? (ruleOf p src dst sports dports act) ≡ false
+      go : (any ≤ p) ⊎ (p < any) → spare? (ruleOf p src dst sports dports act) ≡ false
       go (inl l) =
-          let a : p / 256 ≡ 1 = omega arith in
-          let b : p % 256 ≡ 0 = omega arith in
+          let a : p / any ≡ 1 = omega arith in
+          let b : p % any ≡ 0 = omega arith in
           rw (a, b)
-      go (inr l) = let a : p / 256 ≡ 0 = omega arith in rw a
+      go (inr l) = let a : p / any ≡ 0 = omega arith in rw a
 
   rule-good : (s2 s3 s4 s5 : List ℕ) → p ≤ any → AddressSaid s2 src → AddressSaid s3 dst → PortsSaid s4 sports → PortsSaid s5 dports → act ≤ 3
       → GoodRule (ruleOf p src dst sports dports act)

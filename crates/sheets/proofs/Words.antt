@@ -6,7 +6,7 @@ use Prim.Native.Nat.{ℕ, _≤_, _<_}
 use borrow.Author.Tests.{le-leb, lt-leb}
 use Rattle.sheets.specs.Cuts.{same?}
 use Rattle.sheets.specs.Numbers.{none, numberOf}
-use Rattle.sheets.specs.Parts.{actionOf, any, protocolOf, star}
+use Rattle.sheets.specs.Parts.{actionOf, any, noAction, protocolOf, star}
 use Rattle.texts.specs.Lines.{deny, denyLog, permit, permitLog}
 
 module _ (s : List ℕ) where
@@ -42,6 +42,6 @@ module _ (s : List ℕ) where
         unfolding actionOf
         action-deny-log e = simp (p, q, r, e)
 
-        pub action-none : same? s denyLog ≡ false → 4 ≡ actionOf s
+        pub action-none : same? s denyLog ≡ false → noAction ≡ actionOf s
         unfolding actionOf
         action-none e = simp (p, q, r, e)

@@ -71,11 +71,15 @@ paired low high =
 unfoldable pub portsOf : List ℕ → Ports
 portsOf s = paired (numberOf (before dash s)) (numberOf (after dash s))
 
--- an action's number, or 4
+-- what is answered where there is no action: one more than the last, 3
+abbrev pub noAction : ℕ
+noAction = 4
+
+-- an action's number, or noAction
 unfoldable pub actionOf : List ℕ → ℕ
 actionOf s =
     if same? s permit then 0
     else if same? s deny then 1
     else if same? s permitLog then 2
     else if same? s denyLog then 3
-    else 4
+    else noAction

@@ -13,12 +13,12 @@ use Rattle.sheets.specs.declared.rows.Row.{Row}
 use Rattle.sheets.specs.declared.rows.Row.the-variants.{Good, Bad}
 use Rattle.texts.specs.Lines.{tab}
 
--- The rule of six good fields. A protocol is 0 .. 255 or `any`, which is 256: so its quotient by 256 is the flag of a rule
+-- The rule of six good fields. A protocol is 0 .. 255 or `any`, which is 256: so its quotient by `any` is the flag of a rule
 -- record, and its remainder the protocol, which is 0 under the flag.
 abbrev pub ruleOf : ℕ → Address → Address → Ports → Ports → ℕ → Rule
 ruleOf p src dst sports dports act = record {
-  flag = p / 256;
-  proto = p % 256;
+  flag = p / any;
+  proto = p % any;
   src = src .bits;
   slen = src .len;
   dst = dst .bits;

@@ -9,6 +9,9 @@ use crate::numbers::number;
 // Any protocol, as a number above all protocols.
 pub const ANY: u32 = 256;
 
+// What is answered where there is no action: one more than the last, 3.
+const NO_ACTION: u8 = 4;
+
 const DOT: u8 = 46;
 
 const SLASH: u8 = 47;
@@ -150,5 +153,5 @@ pub fn read_action(s: &[u8]) -> u8
     if same(s, b"deny-log") {
         return 3;
     }
-    4
+    NO_ACTION
 }

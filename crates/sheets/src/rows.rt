@@ -48,9 +48,10 @@ fn row_from(p: u32, src: Address, dst: Address, sports: Ports, dports: Ports, ac
     if 3 < act {
         return Row::Bad(6);
     }
+    // Divided by ANY, a protocol gives 0 and leaves itself, and ANY gives 1 and leaves 0: the flag, and the protocol under it.
     Row::Good(Rule {
-        flag: (p / 256) as u8,
-        proto: (p % 256) as u8,
+        flag: (p / ANY) as u8,
+        proto: (p % ANY) as u8,
         src: src.bits,
         slen: src.len,
         dst: dst.bits,

@@ -1,8 +1,10 @@
 // Reads a rule sheet on standard input and prints the words of its rules, one a line, and then how many there are; or why the
 // sheet is refused (document 02, order 1). What is read, compiled and written as text is the library's work.
-ghost use Prim.Native.Nat.{_*_, _≤_};
+ghost use Prim.Native.Nat.{_*_, _-_, _≤_};
 ghost use lib.ListN.{length};
 ghost use Rattle.records.specs.Layout.{recordSize, wordLimit};
+ghost use Rattle.sheetwords.specs.Pieces.{pieceSize};
+ghost use Rattle.texts.specs.Lines.{lineSize};
 use answers::Answer;
 use libc::STDIN_FILENO;
 use libc::STDOUT_FILENO;
@@ -45,7 +47,7 @@ fn counted(k: u32) {
 // Writes what is gathered where another line might not fit behind it; the place for that line.
 fn placed(out: &[u8], at: usize) -> usize
     requires { ⌜ at ≤ length (now out) ⌝ }
-    ensures { λ r. ⌜ r ≤ 65456 ⌝ }
+    ensures { λ r. ⌜ r ≤ pieceSize - lineSize ⌝ }
 {
     if PIECE - LINE_SIZE < at {
         text(&out[..at]);

@@ -12,7 +12,7 @@ use Rattle.records.specs.Entries.{actionOf, maskOfRecord, numberOf, valueOf}
 use Rattle.records.specs.Layout.{recordSize}
 use Rattle.texts.specs.Decimal.{decimal}
 use Rattle.texts.specs.Hex.{hexOf}
-use Rattle.texts.specs.Lines.{Puts, actionText, deny, denyLog, lineFeed, permit, permitLog, tab, wordLine}
+use Rattle.texts.specs.Lines.{Puts, actionText, deny, denyLog, lineFeed, lineSize, permit, permitLog, tab, wordLine}
 use Rattle.texts.proofs.Behind.{puts-byte, puts-then}
 use Rattle.texts.proofs.Digits.{decimal-few}
 use Rattle.texts.proofs.HexBytes.{hex-length}
@@ -44,7 +44,7 @@ fields-short i s h = record {
   action = action-length (actionOf s);
 }
 
-pub line-short : (i : ℕ) (s : List ℕ) → recordSize ≤ length s → length (wordLine i s) ≤ 80
+pub line-short : (i : ℕ) (s : List ℕ) → recordSize ≤ length s → length (wordLine i s) ≤ lineSize
 line-short i s h =
     let l = fields-short i s h in
     simp length-append (omega (arith, decimal-few i, decimal-few (numberOf s), simp length-append at (l .value), simp length-append at (l .mask), l .action))
@@ -52,7 +52,7 @@ line-short i s h =
 -- ---- the line
 
 -- d1 to d6 are what the list holds after each field
-pub line-put : (d d1 d2 d3 d4 d5 d6 : List ℕ) (at r1 r2 r3 r4 r5 i : ℕ) (s : List ℕ) → recordSize ≤ length s → at + 80 ≤ length d
+pub line-put : (d d1 d2 d3 d4 d5 d6 : List ℕ) (at r1 r2 r3 r4 r5 i : ℕ) (s : List ℕ) → recordSize ≤ length s → at + lineSize ≤ length d
     → Puts d at (decimal i ++ (tab ∷ [])) r1 d1 → Puts d1 r1 (decimal (numberOf s) ++ (tab ∷ [])) r2 d2
     → Puts d2 r2 (hexOf (valueOf s) ++ (tab ∷ [])) r3 d3 → Puts d3 r3 (hexOf (maskOfRecord s) ++ (tab ∷ [])) r4 d4
     → Puts d4 r4 (actionText (actionOf s)) r5 d5 → d6 ≡ writeAt d5 r5 (lineFeed ∷ []) → Puts d at (wordLine i s) (r5 + 1) d6

@@ -48,6 +48,10 @@ wordLine i t =
     ∷ (hexOf (maskOfRecord t) ++ (tab
     ∷ (actionText (actionOf t) ++ (lineFeed ∷ [])))))))))
 
+-- no record's line is longer
+abbrev pub lineSize : ℕ
+lineSize = 80
+
 -- s was written from place i on, and r is the place after it
 pub record Puts (before : List ℕ) (i : ℕ) (s : List ℕ) (r : ℕ) (after : List ℕ) : Type 0 where
   pub next : r ≡ i + length s

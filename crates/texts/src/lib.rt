@@ -6,13 +6,13 @@ ghost use lib.ListN.{length};
 ghost use Rattle.records.specs.Layout.{recordSize};
 ghost use Rattle.texts.specs.Decimal.{decimal};
 ghost use Rattle.texts.specs.Hex.{hexDigit, hexOf};
-ghost use Rattle.texts.specs.Lines.{Puts, actionText, tab, wordLine};
+ghost use Rattle.texts.specs.Lines.{Puts, actionText, lineSize, tab, wordLine};
 use records::ACTION_AT;
 use records::KEY_SIZE;
 use records::MASK_AT;
 use records::NUMBER_AT;
 
-// The most bytes that a record's line takes.
+// No record's line is longer.
 pub const LINE_SIZE: usize = 80;
 
 // Writes x in decimal at `at`; the place after it.
@@ -108,7 +108,7 @@ fn put_bytes(t: &mut [u8], at: usize, s: &[u8]) -> usize
 
 // Writes the line of the record at the start of s, which has this index.
 pub fn put_word(t: &mut [u8], at: usize, index: u32, s: &[u8]) -> usize
-    requires { ⌜ at + 80 ≤ length (now t) ⌝ }
+    requires { ⌜ at + lineSize ≤ length (now t) ⌝ }
     requires { ⌜ index < 100000 ⌝ }
     requires { ⌜ recordSize ≤ length (now s) ⌝ }
     ensures { λ r. ⌜ Puts (now (t .entry)) at (wordLine index (now (s .entry))) r (now (t .exit)) ⌝ }

@@ -6,12 +6,13 @@ use native.Mathlib.Omega.{arith}
 use lib.ListN.{drop, length, length-drop, length-take, take}
 use lib.Seq.{length-take-le}
 use Rattle.records.specs.Layout.{recordSize}
+use Rattle.sheetwords.specs.Pieces.{pieceSize}
 use Rattle.sheetwords.proofs.Gathering.{next-fits}
 use Rattle.sheetwords.proofs.print_words.Statement.{statement}
 use Rattle.sheetwords.proofs.print_words.Tie as tie
 
 abbrev Inv-loop : tie.InvT-loop
-Inv-loop table k out₀ at₀ from₀ i₀ out at from i = ((length out ≡ 65536) × (at ≤ 65536)) × ((from ≡ recordSize * i) × (i ≤ k))
+Inv-loop table k out₀ at₀ from₀ i₀ out at from i = ((length out ≡ pieceSize) × (at ≤ pieceSize)) × ((from ≡ recordSize * i) × (i ≤ k))
 
 abbrev μ-loop : tie.MeasureT-loop
 μ-loop table k out₀ at₀ from₀ i₀ out at from i = k - i
