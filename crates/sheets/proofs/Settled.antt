@@ -28,6 +28,6 @@ read-back (sheet.Bad line field) = refl
 read-back (sheet.Room bytes) = refl
 read-back (sheet.Rules n) = refl
 
-pub one-read : (s held : List ℕ) (r u : Sheet) (x y : List ℕ) → Reading s held r x → Reading s held u y → (r ≡ u) × (x ≡ y)
+pub one-read : (s held : List ℕ) (r u : Sheet) (x y : List ℕ) → Reading s held (readAs r) x → Reading s held (readAs u) y → (r ≡ u) × (x ≡ y)
 one-read s held r u x y p q =
     (back readAs readFrom read-back (readAs u) r u (p .says ∙ sym (q .says)) refl, p .leaves ∙ sym (q .leaves))

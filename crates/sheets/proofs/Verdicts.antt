@@ -14,7 +14,6 @@ use Rattle.fields.specs.Writes.{writeAt}
 use Rattle.records.specs.Layout.{ruleLimit, ruleSize}
 use Rattle.records.specs.Rules.{listBytes}
 use Rattle.sheets.specs.Reading.{ReadRows, Reading, behindRows, many?, reading, rulesLeft, rulesRead, sheetLimit}
-use Rattle.sheets.specs.declared.reading.Sheet.the-variants as sheet
 use Rattle.sheets.specs.declared.rows.Rows.{Rows}
 use Rattle.sheets.specs.declared.rows.Rows.the-variants as rows
 use Rattle.sheets.proofs.Counted.{counted}
@@ -30,41 +29,33 @@ rules-few s free held x n r g = omega (arith, counted ruleLimit 0 n s (sym (r .s
 
 module _ (s lent : List ℕ) where
   -- a refused call changes nothing
-  unchanged : (number a b : ℕ) → eqb number 0 ≡ false → refused number a b ≡ reading s (length lent) → lent ≡ rulesLeft s lent
+  sheet-refused : (number a b : ℕ) → eqb number 0 ≡ false → refused number a b ≡ reading s (length lent) → Reading s lent (refused number a b) lent
   unfolding rulesLeft
-  unchanged number a b n e = rw (← e, n)
+  sheet-refused number a b n e = record { says = e; leaves = rw (← e, n) }
 
-  pub sheet-long : sheetLimit < length s → Reading s lent sheet.Long lent
+  pub sheet-long : sheetLimit < length s → Reading s lent (refused refusal.long 0 0) lent
   unfolding reading
-  sheet-long h =
-      let e : refused refusal.long 0 0 ≡ reading s (length lent) = simp (lt-ltb sheetLimit (length s) h) in
-      record { says = e; leaves = unchanged refusal.long 0 0 refl e }
+  sheet-long h = sheet-refused refusal.long 0 0 refl (simp (lt-ltb sheetLimit (length s) h))
 
-  pub sheet-many : length s ≤ sheetLimit → {b : Bool} → b ≡ many? s → b ≡ true → Reading s lent sheet.Many lent
+  pub sheet-many : length s ≤ sheetLimit → {b : Bool} → b ≡ many? s → b ≡ true → Reading s lent (refused refusal.many 0 0) lent
   unfolding reading
-  sheet-many h m t =
-      let e : refused refusal.many 0 0 ≡ reading s (length lent) = simp (le-ltb sheetLimit (length s) h, sym m ∙ t) in
-      record { says = e; leaves = unchanged refusal.many 0 0 refl e }
+  sheet-many h m t = sheet-refused refusal.many 0 0 refl (simp (le-ltb sheetLimit (length s) h, sym m ∙ t))
 
   module _ (h : length s ≤ sheetLimit) (b : Bool) (m : b ≡ many? s) (f : b ≡ false) (x : Rows) (free held : List ℕ) (r : ReadRows s free x held) where
     behind : behindRows x (length lent) ≡ reading s (length lent)
     unfolding reading
     behind = simp (le-ltb sheetLimit (length s) h, sym m ∙ f) (ap (λ (y : Rows). behindRows y (length lent)) (r .says))
 
-    pub sheet-bad : (line field : ℕ) → x ≡ rows.Bad line field → Reading s lent (sheet.Bad line field) lent
+    pub sheet-bad : (line field : ℕ) → x ≡ rows.Bad line field → Reading s lent (refused refusal.line line field) lent
     unfolding behindRows
-    sheet-bad line field g =
-        let e : refused refusal.line line field ≡ reading s (length lent) = ap (λ (y : Rows). behindRows y (length lent)) (sym g) ∙ behind in
-        record { says = e; leaves = unchanged refusal.line line field refl e }
+    sheet-bad line field g = sheet-refused refusal.line line field refl (rw (← behind, g))
 
     module _ (n : ℕ) (g : x ≡ rows.Good n) where
-      pub sheet-room : length lent < ruleSize * n → Reading s lent (sheet.Room (ruleSize * n)) lent
+      pub sheet-room : length lent < ruleSize * n → Reading s lent (refused refusal.room (ruleSize * n) 0) lent
       unfolding behindRows
-      sheet-room l =
-          let e : refused refusal.room (ruleSize * n) 0 ≡ reading s (length lent) = rw (← behind, g) (simp (lt-ltb (length lent) (ruleSize * n) l)) in
-          record { says = e; leaves = unchanged refusal.room (ruleSize * n) 0 refl e }
+      sheet-room l = sheet-refused refusal.room (ruleSize * n) 0 refl (rw (← behind, g) (simp (lt-ltb (length lent) (ruleSize * n) l)))
 
-      pub sheet-rules : ruleSize * n ≤ length lent → (left : List ℕ) → left ≡ writeAt lent 0 (take (ruleSize * n) held) → Reading s lent (sheet.Rules n) left
+      pub sheet-rules : ruleSize * n ≤ length lent → (left : List ℕ) → left ≡ writeAt lent 0 (take (ruleSize * n) held) → Reading s lent (done n 0 0 0) left
       unfolding behindRows rulesLeft
       sheet-rules l left w =
           let rs = rulesRead ruleLimit s in

@@ -95,6 +95,6 @@ rulesLeft s held =
     if eqb (reading s (length held) .no) 0 then writeAt held 0 (listBytes (rulesRead ruleLimit s)) else held
 
 -- the promise of `read`
-pub record Reading (s held : List ℕ) (r : Sheet) (left : List ℕ) : Type 0 where
-  pub says : readAs r ≡ reading s (length held)
+pub record Reading (s held : List ℕ) (r : Answer) (left : List ℕ) : Type 0 where
+  pub says : r ≡ reading s (length held)
   pub leaves : left ≡ rulesLeft s held

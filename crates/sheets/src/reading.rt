@@ -4,7 +4,7 @@ ghost use mathlib.Core.Path.{_≡_};
 ghost use Prim.Native.Nat.{_*_, _≤_};
 ghost use lib.ListN.{length};
 ghost use Rattle.records.specs.Layout.{ruleLimit, ruleSize};
-ghost use Rattle.sheets.specs.Reading.{ReadRows, Reading, many?};
+ghost use Rattle.sheets.specs.Reading.{ReadRows, Reading, many?, readAs};
 use crate::cuts::cut;
 use crate::rows::Row;
 use crate::rows::Rows;
@@ -79,7 +79,7 @@ fn read_rows(text: &[u8], held: &mut [u8]) -> Rows
 }
 
 pub fn read(text: &[u8], rules: &mut [u8]) -> Sheet
-    ensures { λ r. ⌜ Reading (now (text .entry)) (now (rules .entry)) r (now (rules .exit)) ⌝ }
+    ensures { λ r. ⌜ Reading (now (text .entry)) (now (rules .entry)) (readAs r) (now (rules .exit)) ⌝ }
 {
     if SHEET_LIMIT < text.len() {
         return Sheet::Long;
