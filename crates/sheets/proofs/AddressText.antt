@@ -86,20 +86,7 @@ module _ (p q r t u : List ℕ) (n1 : times dot p ≡ 0) (n2 : times dot q ≡ 0
   address-parts : addressOf (p ++ (dot ∷ (q ++ (dot ∷ (r ++ (dot ∷ (t ++ (slash ∷ u))))))))
       ≡ joined (numberOf p) (numberOf q) (numberOf r) (numberOf t) (numberOf u)
   unfolding addressOf
-  address-parts =
-      let s4 = t ++ (slash ∷ u) in
-      let s3 = r ++ (dot ∷ s4) in
-      let s2 = q ++ (dot ∷ s3) in
-      rw (
-        before-mark dot p s2 n1,
-        after-mark dot p s2 n1,
-        before-mark dot q s3 n2,
-        after-mark dot q s3 n2,
-        before-mark dot r s4 n3,
-        after-mark dot r s4 n3,
-        before-mark slash t u n4,
-        after-mark slash t u n4,
-      )
+  address-parts = simp (before-mark, after-mark)
 
 -- ---- an address
 

@@ -2,6 +2,7 @@
 -- Assumes nothing.
 use mathlib.Core.Bool.{Bool, true, false}
 use mathlib.Core.List.{List, [], _∷_}
+use mathlib.Core.Logic.{_⊎_, inl, inr, ⊎-elim}
 use mathlib.Core.Path.{_≡_, refl, ap, _∙_}
 use Prim.Native.Nat.{ℕ, zero, suc, _+_, _-_, _≤_, _<_}
 use native.Mathlib.Numerals.{add-one}
@@ -10,6 +11,7 @@ use lib.Dec.{eqb}
 use lib.ListN.{length, take, drop, getD, drop-of-length-le, length-drop}
 use lib.Seq.{drop-cons, drop-nil, take-all}
 use borrow.Author.Tests.{eq-eqb, ne-eqb}
+use Rattle.bits.specs.Choice.{if_then_else_}
 use Rattle.sheets.specs.Cuts.{Cuts, after, before}
 use Rattle.sheets.specs.declared.cuts.Places.{Places}
 
@@ -53,14 +55,26 @@ module _ (c : ℕ) (s : List ℕ) (i : ℕ) (f : Cutting c s i) where
 
 -- ---- the two parts
 
-pub before-short : (c : ℕ) (s : List ℕ) → length (before c s) ≤ length s
-unfolding before
-before-short c [] = omega arith
-before-short c (x ∷ s) = go (eqb x c) refl (before-short c s)
+-- of the lengths of a text and of its parts: a mark stands between these, or there is none
+abbrev Marked : ℕ → ℕ → ℕ → Type 0
+Marked whole front back = (front + 1 + back ≡ whole) ⊎ ((front ≡ whole) × (back ≡ 0))
+
+marked : (c : ℕ) (s : List ℕ) → Marked (length s) (length (before c s)) (length (after c s))
+unfolding before after
+marked c [] = inr (refl, refl)
+marked c (x ∷ s) = go (eqb x c) (marked c s)
   where
-    go : (b : Bool) → eqb x c ≡ b → length (before c s) ≤ length s → length (before c (x ∷ s)) ≤ length (x ∷ s)
-    go true e h = rw e (omega arith)
-    go false e h = rw e (omega arith)
+    go : (b : Bool) → Marked (length s) (length (before c s)) (length (after c s))
+        → Marked (length (x ∷ s)) (length (if b then [] else x ∷ before c s)) (length (if b then s else after c s))
+    go true m = inl (omega arith)
+    go false (inl m) = inl (omega arith)
+    go false (inr m) = inr (omega arith, m .1)
+
+pub before-short : (c : ℕ) (s : List ℕ) → length (before c s) ≤ length s
+before-short c s = ⊎-elim (λ m. omega arith) (λ m. omega arith) (marked c s)
+
+after-short : (c : ℕ) (s : List ℕ) → length (after c s) ≤ length s
+after-short c s = ⊎-elim (λ m. omega arith) (λ m. omega arith) (marked c s)
 
 pub take-before : (c : ℕ) (s : List ℕ) → take (length (before c s)) s ≡ before c s
 unfolding before
@@ -70,15 +84,6 @@ take-before c (x ∷ s) = go (eqb x c) refl (take-before c s)
     go : (b : Bool) → eqb x c ≡ b → take (length (before c s)) s ≡ before c s → take (length (before c (x ∷ s))) (x ∷ s) ≡ before c (x ∷ s)
     go true e h = rw e
     go false e h = rw e (ap (λ (l : List ℕ). x ∷ l) h)
-
-after-short : (c : ℕ) (s : List ℕ) → length (after c s) ≤ length s
-unfolding after
-after-short c [] = omega arith
-after-short c (x ∷ s) = go (eqb x c) refl (after-short c s)
-  where
-    go : (b : Bool) → eqb x c ≡ b → length (after c s) ≤ length s → length (after c (x ∷ s)) ≤ length (x ∷ s)
-    go true e h = rw e (omega arith)
-    go false e h = rw e (omega arith)
 
 drop-one : (n x : ℕ) (s : List ℕ) → n ≡ 1 → drop n (x ∷ s) ≡ s
 drop-one n x s e = rw e
@@ -99,6 +104,13 @@ drop-after c (x ∷ s) n h = go (eqb x c) refl n h (drop-after c s)
 module _ {c : ℕ} {s : List ℕ} {r : Places} (k : Cuts c s r) where
   pub cut-next : r .next ≤ length s
   cut-next = omega arith
+
+  -- places that are the same tell that there is no mark, and others that there is one
+  pub cut-nowhere : r .end ≡ r .next → length (before c s) ≡ length s
+  cut-nowhere e = ⊎-elim (λ m. omega arith) (λ m. omega arith) (marked c s)
+
+  pub cut-somewhere : (r .end ≡ r .next → ⊥) → length (before c s) < length s
+  cut-somewhere n = ⊎-elim (λ m. omega arith) (λ m. absurd (n (omega arith))) (marked c s)
 
   pub cut-front : take (r .end) s ≡ before c s
   cut-front = rw (k .end) (take-before c s)

@@ -8,7 +8,6 @@ pub mod Assembling
 pub mod RowFields
 pub mod Rests
 pub mod Passing
-pub mod Ending
 pub mod Lines
 pub mod RuleSizes
 pub mod LinesLeft

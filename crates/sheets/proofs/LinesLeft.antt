@@ -17,7 +17,7 @@ use Rattle.sheets.specs.declared.rows.Row.{Row}
 use Rattle.sheets.specs.declared.rows.Row.the-variants as row
 use Rattle.sheets.specs.declared.rows.Rows.{Rows}
 use Rattle.sheets.specs.declared.rows.Rows.the-variants as rows
-use Rattle.sheets.proofs.Ending.{mark-within, unmarked}
+use Rattle.sheets.proofs.Cutting.{cut-nowhere, cut-somewhere}
 use Rattle.sheets.proofs.Lines.{rows-all, rows-bad, rows-good, rows-none, rows-open, rules-all, rules-bad, rules-good, rules-none, rules-open}
 use Rattle.sheets.proofs.Rests.{rest-after, rest-before, rest-cut, rest-front, rest-within}
 use Rattle.sheets.proofs.RuleSizes.{length-rule}
@@ -73,7 +73,7 @@ module _ (s held : List ℕ) where
       pub lines-open : (from ≡ length s → ⊥) → r .end ≡ r .next → ReadRows s held (rows.Bad (i + 1) 0) now
       lines-open n e =
           let z : length (drop from s) ≡ 0 → ⊥ = λ (y : length (drop from s) ≡ 0). n (omega (arith, length-drop from s, l .within)) in
-          let u = unmarked lineFeed (drop from s) r (rest-cut lineFeed s from r p) e in
+          let u = cut-nowhere (rest-cut lineFeed s from r p) e in
           stop (rows.Bad (i + 1) 0) (rw more (rows-open (ruleLimit - (i + 1)) i (drop from s) z u)) (rules-open (ruleLimit - i) (drop from s) u)
 
       module _ (n : r .end ≡ r .next → ⊥) (x : Row) (e : x ≡ rowOf (take (r .end) (take (length s - from) (drop from s)))) where
@@ -81,7 +81,7 @@ module _ (s held : List ℕ) where
         line = sym (e ∙ ap rowOf (rest-before lineFeed s from r p))
 
         ends : length (before lineFeed (drop from s)) < length (drop from s)
-        ends = mark-within lineFeed (drop from s) r (rest-cut lineFeed s from r p) n
+        ends = cut-somewhere (rest-cut lineFeed s from r p) n
 
         -- it is bad
         pub lines-bad : (k : ℕ) → x ≡ row.Bad k → ReadRows s held (rows.Bad (i + 1) k) now

@@ -33,33 +33,7 @@ module _ (p q r t u v : List ℕ) (n1 : times tab p ≡ 0) (n2 : times tab q ≡
   row-parts : rowOf (p ++ (tab ∷ (q ++ (tab ∷ (r ++ (tab ∷ (t ++ (tab ∷ (u ++ (tab ∷ v))))))))))
       ≡ rowFrom (protocolOf p) (addressOf q) (addressOf r) (portsOf t) (portsOf u) (actionOf v)
   unfolding rowOf
-  row-parts =
-      let s5 = u ++ (tab ∷ v) in
-      let s4 = t ++ (tab ∷ s5) in
-      let s3 = r ++ (tab ∷ s4) in
-      let s2 = q ++ (tab ∷ s3) in
-      let tabs : times tab (p ++ (tab ∷ s2)) ≡ 5 =
-      omega (
-        arith,
-        times-mark tab p s2 n1,
-        times-mark tab q s3 n2,
-        times-mark tab r s4 n3,
-        times-mark tab t s5 n4,
-        times-mark tab u v n5,
-      ) in
-      rw (
-        tabs,
-        before-mark tab p s2 n1,
-        after-mark tab p s2 n1,
-        before-mark tab q s3 n2,
-        after-mark tab q s3 n2,
-        before-mark tab r s4 n3,
-        after-mark tab r s4 n3,
-        before-mark tab t s5 n4,
-        after-mark tab t s5 n4,
-        before-mark tab u v n5,
-        after-mark tab u v n5,
-      )
+  row-parts = simp (times-mark, before-mark, after-mark, n6)
 
 -- ---- the line of a rule
 
