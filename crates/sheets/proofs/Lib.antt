@@ -17,6 +17,7 @@ pub mod Marks
 pub mod Decimals
 pub mod FieldText
 pub mod AddressText
+pub mod TestsInOrder
 pub mod RowText
 pub mod RuleBack
 pub mod Settled

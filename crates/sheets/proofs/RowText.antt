@@ -5,26 +5,27 @@ use mathlib.Core.Logic.{_⊎_, inl, inr}
 use mathlib.Core.Path.{_≡_, refl, sym, ap, subst, _∙_}
 use Prim.Native.Nat.{ℕ, _+_, _-_, _*_, _/_, _%_, _^_, _≤_, _<_}
 use native.Mathlib.Omega.{arith}
-use lib.Dec.{eqb, ltb}
-use borrow.Author.Tests.{eq-eqb, eqb-true, le-ltb, ltb-false}
+use lib.Dec.{eqb}
+use borrow.Author.Tests.{eq-eqb, eqb-true, le-ltb, ltb-false, not-false}
 use Rattle.bits.proofs.Orders.{le-or-lt}
 use Rattle.bits.specs.Choice.{if_then_else_}
 use Rattle.records.specs.declared.Rule.{Rule}
 use Rattle.rules.proofs.Goods.{fine}
 use Rattle.rules.proofs.Testing.{none-bad, past-dst, past-proto, past-src}
 use Rattle.rules.specs.Faults.{spare?}
+use Rattle.sheets.specs.BadLines.{badFields}
 use Rattle.sheets.specs.Cuts.{after, before, times}
 use Rattle.sheets.specs.Parts.{actionOf, addressOf, any, portsOf, protocolOf}
-use Rattle.sheets.specs.Rows.{rowFrom, rowOf, ruleOf}
+use Rattle.sheets.specs.Rows.{ofFields, rowFrom, rowOf, ruleOf}
 use Rattle.sheets.specs.Text.{AddressSaid, GoodRule, PortsSaid, addressText, portsText, protocolText, ruleText}
 use Rattle.sheets.specs.declared.parts.Address.{Address}
 use Rattle.sheets.specs.declared.parts.Ports.{Ports}
-use Rattle.sheets.specs.declared.rows.Row.{Row}
 use Rattle.sheets.specs.declared.rows.Row.the-variants.{Good, Bad}
 use Rattle.texts.specs.Lines.{actionText, lineFeed, tab}
 use Rattle.sheets.proofs.AddressText.{address-said, address-text, address-without}
 use Rattle.sheets.proofs.FieldText.{action-said, action-text, action-without, ports-said, ports-text, ports-without, protocol-said, protocol-text, protocol-without}
 use Rattle.sheets.proofs.Marks.{after-mark, before-mark, parted, times-after, times-mark, times-past}
+use Rattle.sheets.proofs.TestsInOrder.{tested, tested-good}
 
 -- ---- six fields and five tabs
 
@@ -98,36 +99,17 @@ record Fields (p : ℕ) (src dst : Address) (sports dports : Ports) (act : ℕ) 
 
 fields-good : (p : ℕ) (src dst : Address) (sports dports : Ports) (act : ℕ) (r : Rule) → rowFrom p src dst sports dports act ≡ Good r
     → Fields p src dst sports dports act r
-unfolding rowFrom
+unfolding rowFrom tested
 fields-good p src dst sports dports act r h =
-    go (ltb any p) (src .good) (dst .good) (sports .good) (dports .good) (ltb 3 act) refl refl refl refl refl refl h
-  where
-    clash : (k : ℕ) → Bad k ≡ Good r → Fields p src dst sports dports act r
-    clash k e = let z : _≡_ {A = ℕ} 0 1 = cc in absurd (omega arith)
-
-    go : (b1 b2 b3 b4 b5 b6 : Bool) → ltb any p ≡ b1 → src .good ≡ b2 → dst .good ≡ b3 → sports .good ≡ b4 → dports .good ≡ b5 → ltb 3 act ≡ b6
-        → (if b1 then Bad 1
-        else if not b2 then Bad 2
-        else if not b3 then Bad 3
-        else if not b4 then Bad 4
-        else if not b5 then Bad 5
-        else if b6 then Bad 6
-        else Good (ruleOf p src dst sports dports act)) ≡ Good r
-        → Fields p src dst sports dports act r
-    go true b2 b3 b4 b5 b6 e1 e2 e3 e4 e5 e6 w = clash 1 w
-    go false false b3 b4 b5 b6 e1 e2 e3 e4 e5 e6 w = clash 2 w
-    go false true false b4 b5 b6 e1 e2 e3 e4 e5 e6 w = clash 3 w
-    go false true true false b5 b6 e1 e2 e3 e4 e5 e6 w = clash 4 w
-    go false true true true false b6 e1 e2 e3 e4 e5 e6 w = clash 5 w
-    go false true true true true true e1 e2 e3 e4 e5 e6 w = clash 6 w
-    go false true true true true false e1 e2 e3 e4 e5 e6 w = record {
-      protocol = ltb-false any p e1;
-      source = e2;
-      dest = e3;
-      sourcePorts = e4;
-      destPorts = e5;
-      action = ltb-false 3 act e6;
-      rule = cc;
+    let t = tested-good 1 (badFields p src dst sports dports act) _ r h in
+    record {
+      protocol = ltb-false any p (t .1 0);
+      source = not-false (src .good) (t .1 1);
+      dest = not-false (dst .good) (t .1 2);
+      sourcePorts = not-false (sports .good) (t .1 3);
+      destPorts = not-false (dports .good) (t .1 4);
+      action = ltb-false 3 act (t .1 5);
+      rule = t .0;
     }
 
 -- a rule of good fields is good
@@ -175,17 +157,11 @@ module _ (s : List ℕ) where
   abbrev s6 : List ℕ
   s6 = after tab s5
 
-  -- the row of its fields
-  abbrev fieldsRow : Row
-  fieldsRow =
-      rowFrom (protocolOf (before tab s)) (addressOf (before tab s2)) (addressOf (before tab s3)) (portsOf (before tab s4))
-      (portsOf (before tab s5)) (actionOf s6)
-
-  five-tabs : (r : Rule) → rowOf s ≡ Good r → (times tab s ≡ 5) × (fieldsRow ≡ Good r)
+  five-tabs : (r : Rule) → rowOf s ≡ Good r → (times tab s ≡ 5) × (ofFields rowFrom s ≡ Good r)
   unfolding rowOf
   five-tabs r h = go (eqb (times tab s) 5) refl h
     where
-      go : (b : Bool) → eqb (times tab s) 5 ≡ b → (if not b then Bad 0 else fieldsRow) ≡ Good r → (times tab s ≡ 5) × (fieldsRow ≡ Good r)
+      go : (b : Bool) → eqb (times tab s) 5 ≡ b → (if not b then Bad 0 else ofFields rowFrom s) ≡ Good r → (times tab s ≡ 5) × (ofFields rowFrom s ≡ Good r)
       go true z w = (eqb-true (times tab s) 5 z, w)
       go false z w = let n : _≡_ {A = ℕ} 0 1 = cc in absurd (omega arith)
 

@@ -7,10 +7,10 @@ use Prim.Native.Nat.{ℕ, _+_, _<_}
 use lib.Dec.{eqb, ltb}
 use lib.ListN.{length}
 use Rattle.records.specs.declared.Rule.{Rule}
-use Rattle.sheets.specs.Cuts.{after, before, times}
-use Rattle.sheets.specs.Parts.{actionOf, addressOf, any, portsOf, protocolOf}
+use Rattle.sheets.specs.Cuts.{before, times}
+use Rattle.sheets.specs.Parts.{any}
 use Rattle.sheets.specs.Reading.{ended?}
-use Rattle.sheets.specs.Rows.{rowOf}
+use Rattle.sheets.specs.Rows.{ofFields, rowOf}
 use Rattle.sheets.specs.Text.{AllGood, sheetText}
 use Rattle.sheets.specs.declared.parts.Address.{Address}
 use Rattle.sheets.specs.declared.parts.Ports.{Ports}
@@ -46,11 +46,4 @@ badFields p src dst sports dports act = ltb any p ∷ not (src .good) ∷ not (d
 
 -- whether there are not six fields, and which of the six are bad
 abbrev pub badParts : List ℕ → List Bool
-badParts s =
-    let s2 = after tab s in
-    let s3 = after tab s2 in
-    let s4 = after tab s3 in
-    let s5 = after tab s4 in
-    let s6 = after tab s5 in
-    not (eqb (times tab s) 5)
-    ∷ badFields (protocolOf (before tab s)) (addressOf (before tab s2)) (addressOf (before tab s3)) (portsOf (before tab s4)) (portsOf (before tab s5)) (actionOf s6)
+badParts s = not (eqb (times tab s) 5) ∷ ofFields badFields s

@@ -41,15 +41,16 @@ rowFrom p src dst sports dports act =
     else if ltb 3 act then Bad 6
     else Good (ruleOf p src dst sports dports act)
 
--- six fields, parted by five tabs
-unfoldable pub rowOf : List ℕ → Row
-rowOf s =
+-- what f makes of the six fields of a line
+abbrev pub ofFields : {A : Type 0} → (ℕ → Address → Address → Ports → Ports → ℕ → A) → List ℕ → A
+ofFields f s =
     let s2 = after tab s in
     let s3 = after tab s2 in
     let s4 = after tab s3 in
     let s5 = after tab s4 in
     let s6 = after tab s5 in
-    if not (eqb (times tab s) 5) then Bad 0
-    else
-    rowFrom (protocolOf (before tab s)) (addressOf (before tab s2)) (addressOf (before tab s3))
-    (portsOf (before tab s4)) (portsOf (before tab s5)) (actionOf s6)
+    f (protocolOf (before tab s)) (addressOf (before tab s2)) (addressOf (before tab s3)) (portsOf (before tab s4)) (portsOf (before tab s5)) (actionOf s6)
+
+-- six fields, parted by five tabs
+unfoldable pub rowOf : List ℕ → Row
+rowOf s = if not (eqb (times tab s) 5) then Bad 0 else ofFields rowFrom s
