@@ -70,9 +70,6 @@ marked c (x ∷ s) = go (eqb x c) (marked c s)
     go false (inl m) = inl (omega arith)
     go false (inr m) = inr (omega arith, m .1)
 
-pub before-short : (c : ℕ) (s : List ℕ) → length (before c s) ≤ length s
-before-short c s = ⊎-elim (λ m. omega arith) (λ m. omega arith) (marked c s)
-
 after-short : (c : ℕ) (s : List ℕ) → length (after c s) ≤ length s
 after-short c s = ⊎-elim (λ m. omega arith) (λ m. omega arith) (marked c s)
 

@@ -11,8 +11,6 @@ pub mod Passing
 pub mod Lines
 pub mod RuleSizes
 pub mod LinesLeft
-pub mod Counted
-pub mod Verdicts
 pub mod Marks
 pub mod Decimals
 pub mod FieldText
@@ -23,5 +21,6 @@ pub mod RuleBack
 pub mod Settled
 pub mod FirstField
 pub mod Unread
+pub mod Verdicts
 pub mod SheetText
 pub mod FirstBadLine

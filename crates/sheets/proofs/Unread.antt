@@ -63,9 +63,9 @@ line-parted s e = parted lineFeed s (go (le-or-lt (times lineFeed s) 0))
     go (inl h) = absurd (omega (arith, ltb-true (length (before lineFeed s)) (length s) e, ap length (before-none lineFeed s (omega arith))))
     go (inr h) = h
 
-nline-read : (f i : ℕ) (s : List ℕ) (v : Rows) → Says f i s 0 s v → Parts f i s [] s v
+none-read : (f i : ℕ) (s : List ℕ) (v : Rows) → Says f i s 0 s v → Parts f i s [] s v
 unfolding sheetText
-nline-read f i s v h = record { text = refl; good = tt; few = omega arith; says = h }
+none-read f i s v h = record { text = refl; good = tt; few = omega arith; says = h }
 
 module _ (f i : ℕ) (s : List ℕ) where
   says-next : (k : ℕ) (rest : List ℕ) (v : Rows) → Says f (i + 1) (after lineFeed s) k rest v → Says (suc f) i s (suc k) rest v
@@ -94,8 +94,8 @@ rows-next f i x s = rw (ne-eqb (suc (length s)) 0 (λ (z : suc (length s) ≡ 0)
 
 pub parts : (f i : ℕ) (s : List ℕ) → Parts f i s (rulesRead f s) (unread f s) (rowsOf f i s)
 unfolding afterLines before rowsOf rulesRead unread
-parts zero i s = nline-read zero i s (rows.Good i) (omega arith, refl)
-parts (suc f) i [] = nline-read (suc f) i [] (rows.Good i) (omega arith, sym (lines-none (suc f)))
+parts zero i s = none-read zero i s (rows.Good i) (omega arith, refl)
+parts (suc f) i [] = none-read (suc f) i [] (rows.Good i) (omega arith, sym (lines-none (suc f)))
 parts (suc f) i (x ∷ s) = rw (rows-next f i x s) (go (ended? t) (rowOf (before lineFeed t)) refl refl (parts f (i + 1) u))
   where
     t : List ℕ
@@ -107,6 +107,6 @@ parts (suc f) i (x ∷ s) = rw (rows-next f i x s) (go (ended? t) (rowOf (before
     go : (b : Bool) (r : Row) → ended? t ≡ b → rowOf (before lineFeed t) ≡ r → Parts f (i + 1) u (rulesRead f u) (unread f u) (rowsOf f (i + 1) u)
         → Parts (suc f) i t (if b then ruleThen r (rulesRead f u) else []) (if b then leftThen r (unread f u) t else t)
         (if not b then rows.Bad (i + 1) 0 else rowThen r (i + 1) (rowsOf f (i + 1) u))
-    go false r e g p = nline-read (suc f) i t (rows.Bad (i + 1) 0) (omega arith, inl (record { some = omega arith; endless = e; whole = refl }))
-    go true (row.Bad k) e g p = nline-read (suc f) i t (rows.Bad (i + 1) k) (omega arith, inr (record { ended = e; says = g }))
+    go false r e g p = none-read (suc f) i t (rows.Bad (i + 1) 0) (omega arith, inl (record { some = omega arith; endless = e; whole = refl }))
+    go true (row.Bad k) e g p = none-read (suc f) i t (rows.Bad (i + 1) k) (omega arith, inr (record { ended = e; says = g }))
     go true (row.Good r) e g p = line-read f i t r (rulesRead f u) (unread f u) (rowsOf f (i + 1) u) e g p

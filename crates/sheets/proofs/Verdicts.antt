@@ -16,16 +16,20 @@ use Rattle.records.specs.Rules.{listBytes}
 use Rattle.sheets.specs.Reading.{ReadRows, Reading, behindRows, many?, reading, rulesLeft, rulesRead, sheetLimit}
 use Rattle.sheets.specs.declared.rows.Rows.{Rows}
 use Rattle.sheets.specs.declared.rows.Rows.the-variants as rows
-use Rattle.sheets.proofs.Counted.{counted}
 use Rattle.sheets.proofs.RuleSizes.{length-rules}
+use Rattle.sheets.proofs.Unread.{parts}
 
 -- what is written at the start stands there
 written-first : (d s : List ℕ) (n : ℕ) → length s ≡ n → take n (writeAt d 0 s) ≡ s
 unfolding writeAt
 written-first d s n e = take-at s _ n e
 
+-- where all lines are good, there are as many rules as lines
+rules-counted : (s free held : List ℕ) (x : Rows) (n : ℕ) → ReadRows s free x held → x ≡ rows.Good n → n ≡ length (rulesRead ruleLimit s)
+rules-counted s free held x n r g = let p = rw (sym (r .says) ∙ g) at (parts ruleLimit 0 s) in omega (arith, p .says .0)
+
 pub rules-few : (s free held : List ℕ) (x : Rows) (n : ℕ) → ReadRows s free x held → x ≡ rows.Good n → n ≤ ruleLimit
-rules-few s free held x n r g = omega (arith, counted ruleLimit 0 n s (sym (r .says) ∙ g) .few)
+rules-few s free held x n r g = omega (arith, rules-counted s free held x n r g, parts ruleLimit 0 s .few)
 
 module _ (s lent : List ℕ) where
   -- a refused call changes nothing
@@ -59,7 +63,7 @@ module _ (s lent : List ℕ) where
       unfolding behindRows rulesLeft
       sheet-rules l left w =
           let rs = rulesRead ruleLimit s in
-          let k : length (listBytes rs) ≡ ruleSize * n = omega (arith, length-rules rs, counted ruleLimit 0 n s (sym (r .says) ∙ g) .is) in
+          let k : length (listBytes rs) ≡ ruleSize * n = omega (arith, length-rules rs, rules-counted s free held x n r g) in
           let t : take (ruleSize * n) held ≡ listBytes rs = rw (r .leaves) (written-first free (listBytes rs) (ruleSize * n) k) in
           let e : done n 0 0 0 ≡ reading s (length lent) = rw (← behind, g) (simp (le-ltb (length lent) (ruleSize * n) l)) in
           record { says = e; leaves = w ∙ ap (writeAt lent 0) t ∙ rw (← e) }
