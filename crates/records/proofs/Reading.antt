@@ -2,7 +2,7 @@
 -- of a loop over the rules. Assumes nothing.
 use mathlib.Core.List.{List, [], _∷_, _++_, append-assoc}
 use mathlib.Core.Path.{_≡_, refl, sym, ap, _∙_}
-use Prim.Native.Nat.{ℕ, suc, _+_, _-_, _*_, _^_, _≤_, _<_}
+use Prim.Native.Nat.{ℕ, suc, _+_, _-_, _*_, _≤_, _<_}
 use native.Mathlib.Nat.{sub-zero}
 use native.Mathlib.Omega.{arith}
 use lib.ListN.{length, take, drop}
@@ -13,7 +13,7 @@ use Rattle.fields.proofs.Writing.{rest-is}
 use Rattle.records.specs.Entries.{Entry, entryBytes, tableBytes}
 use Rattle.records.specs.Keys.{KeyFits, keyAt, keyBytes}
 use Rattle.records.specs.Layout.{recordSize, ruleSize}
-use Rattle.records.specs.Rules.{ruleAt, rulesOf}
+use Rattle.records.specs.Rules.{RuleFits, ruleAt, rulesOf}
 use Rattle.records.specs.declared.Rule.{Rule}
 
 -- ---- numbers that fit
@@ -27,17 +27,6 @@ key-fits l b = record {
   sport = at2-small l 9 b;
   dport = at2-small l 11 b;
 }
-
--- the protocol, the addresses, the ports and the action fit their bytes
-pub record RuleFits (r : Rule) : Type 0 where
-  pub proto : r .proto < 2 ^ 8
-  pub src : r .src < 2 ^ 32
-  pub dst : r .dst < 2 ^ 32
-  pub slow : r .slow < 2 ^ 16
-  pub shigh : r .shigh < 2 ^ 16
-  pub dlow : r .dlow < 2 ^ 16
-  pub dhigh : r .dhigh < 2 ^ 16
-  pub action : r .action < 2 ^ 8
 
 pub rule-fits : (l : List ℕ) → Bytes l → RuleFits (ruleAt l)
 unfolding ruleAt

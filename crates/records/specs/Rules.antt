@@ -1,6 +1,6 @@
 -- The 21 bytes of a rule, and the rules of a list of bytes.
 use mathlib.Core.List.{List, [], _∷_, _++_}
-use Prim.Native.Nat.{ℕ, zero, suc, _/_}
+use Prim.Native.Nat.{ℕ, zero, suc, _/_, _^_, _<_}
 use lib.ListN.{drop, getD, length}
 use Rattle.fields.specs.Bytes.{at2, at4, be2, be4}
 use Rattle.records.specs.Layout.{ruleSize}
@@ -30,6 +30,17 @@ rulesOf (suc n) l = ruleAt l ∷ rulesOf n (drop ruleSize l)
 -- all of them
 abbrev pub allRules : List ℕ → List Rule
 allRules l = rulesOf (length l / ruleSize) l
+
+-- the protocol, the addresses, the ports and the action fit their bytes
+pub record RuleFits (r : Rule) : Type 0 where
+  pub proto : r .proto < 2 ^ 8
+  pub src : r .src < 2 ^ 32
+  pub dst : r .dst < 2 ^ 32
+  pub slow : r .slow < 2 ^ 16
+  pub shigh : r .shigh < 2 ^ 16
+  pub dlow : r .dlow < 2 ^ 16
+  pub dhigh : r .dhigh < 2 ^ 16
+  pub action : r .action < 2 ^ 8
 
 -- an address and its length, and an interval of ports, as bytes
 abbrev pub prefixBytes : ℕ → ℕ → List ℕ

@@ -1,33 +1,23 @@
 -- The rule named by 7 is the lowest bad one, and its field the first bad one. Assumes nothing.
 use mathlib.Core.Bool.{Bool, true, false}
-use mathlib.Core.List.{List, [], _∷_, _++_, List·Memᴰ, List·Memᴰ·not-nil, List·Memᴰ·cases-cons}
+use mathlib.Core.List.{List, [], _∷_, List·Memᴰ, List·Memᴰ·not-nil, List·Memᴰ·cases-cons}
 use mathlib.Core.Logic.{_⊎_, inl, inr}
 use mathlib.Core.Path.{_≡_, refl, sym, ap, _∙_}
 use Prim.Native.Nat.{ℕ, zero, suc, _+_, _<_}
 use native.Mathlib.Omega.{arith}
 use lib.Dec.{eqb}
-use lib.ListN.{getD, length}
+use lib.ListN.{getD}
 use borrow.Author.Tests.{eqb-true, eqb-false}
 use Rattle.bits.specs.Choice.{if_then_else_}
 use Rattle.records.specs.Rules.{allRules}
 use Rattle.records.specs.declared.Rule.{Rule}
 use Rattle.rules.specs.Faults.{badField, faults, firstBad, firstTrue, testedRules}
+use Rattle.rules.specs.Lowest.{FirstTest, LowestBad}
 use Rattle.rules.specs.declared.faults.ListFault.the-variants.{Odd, Many, Bad}
 use Rattle.rules.specs.declared.faults.ListTest.the-variants.{Refused}
 use Rattle.rules.proofs.Testing.{tested-each, tested-past}
 
 -- ---- the rule
-
--- of rules that are numbered from j on, number i is the lowest bad one and f its first bad field
-pub record LowestBad (rs : List Rule) (j i f : ℕ) : Type 0 where
-  pub before : List Rule
-  pub bad : Rule
-  pub after : List Rule
-  pub splits : rs ≡ before ++ (bad ∷ after)
-  pub number : i ≡ j + length before
-  pub field : badField bad ≡ f
-  pub some : f ≡ 0 → ⊥
-  pub fine : (r : Rule) → List·Memᴰ r before → badField r ≡ 0
 
 pub lowest-bad : (j : ℕ) (rs : List Rule) (i f : ℕ) → firstBad j rs ≡ Refused (Bad i f) → LowestBad rs j i f
 unfolding firstBad
@@ -76,14 +66,6 @@ lowest-tested l i f e =
     lowest-bad 0 (allRules l) i f (sym (tested-each l (p .0) (p .1)) ∙ e)
 
 -- ---- its field
-
--- of tests that are numbered from i on, number f is the first that holds
-pub record FirstTest (bs : List Bool) (i f : ℕ) : Type 0 where
-  pub place : ℕ
-  pub number : f ≡ i + place
-  pub within : place < length bs
-  pub holds : getD bs place false ≡ true
-  pub before : (k : ℕ) → k < place → getD bs k false ≡ false
 
 first-test : (bs : List Bool) (i f : ℕ) → firstTrue i bs ≡ f → (f ≡ 0 → ⊥) → FirstTest bs i f
 unfolding firstTrue

@@ -1,3 +1,4 @@
 pub mod Faults
+pub mod Lowest
 pub mod Meaning
 pub mod Finding

@@ -16,11 +16,7 @@ use Rattle.blocks.specs.Words.{Matches, word}
 use Rattle.fields.specs.Bytes.{Bytes}
 use Rattle.tables.proofs.Parts.{match-parts}
 use Rattle.tables.specs.Looking.{bytesMatch}
-
--- the big-endian number of all bytes: 104 bits for 13 bytes
-unfoldable pub number : List ℕ → ℕ
-number [] = 0
-number (x ∷ xs) = x * 2 ^ (8 * length xs) + number xs
+use Rattle.tables.specs.Meaning.{number}
 
 rest-bytes : (x : ℕ) (xs : List ℕ) → Bytes (x ∷ xs) → Bytes xs
 rest-bytes x xs b i = b (suc i)

@@ -4,16 +4,7 @@ use mathlib.Core.List.{List, [], _∷_, _++_, map}
 use mathlib.Core.Logic.{_⊎_, inl, inr}
 use mathlib.Core.Path.{_≡_, refl, sym, ap, ap₂, _∙_}
 use Rattle.entries.specs.Words.{each}
-
--- some member passes
-unfoldable pub any : {A : Type 0} → (A → Bool) → List A → Bool
-any f [] = false
-any f (x ∷ xs) = f x || any f xs
-
--- no two members at different places pass
-abbrev pub AtMostOne : {A : Type 0} → (A → Bool) → List A → Type 0
-AtMostOne f [] = Unit {0}
-AtMostOne f (x ∷ xs) = (f x ≡ true → any f xs ≡ true → ⊥) × AtMostOne f xs
+use Rattle.tables.specs.Meaning.{AtMostOne, any}
 
 or-cases : (a b : Bool) → (a || b) ≡ true → (a ≡ true) ⊎ (b ≡ true)
 or-cases true b e = inl refl

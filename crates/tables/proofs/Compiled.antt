@@ -36,11 +36,11 @@ use Rattle.rules.specs.declared.faults.ListTest.the-variants.{Good, Refused}
 use Rattle.rules.specs.declared.finding.Found as rule-answer
 use Rattle.tables.specs.Compiling.{Compiling, compiledAs, compiling, tableLeft}
 use Rattle.tables.specs.Looking.{firstIll, firstRecord, foundAs, looking, lookingFormed}
+use Rattle.tables.specs.Meaning.{AllSound, forget}
 use Rattle.tables.specs.declared.compiling.Compiled.{Compiled}
 use Rattle.tables.specs.declared.finding.Found.{Found}
-use Rattle.tables.proofs.Demand2.{forget, table-finds}
+use Rattle.tables.proofs.Demand2.{table-finds}
 use Rattle.tables.proofs.FormedTable.{compiled-formed}
-use Rattle.tables.proofs.RuleWords.{AllSound}
 use Rattle.tables.proofs.Scanning.{formed-header, formed-found, looking-found}
 
 -- ---- a well-formed list

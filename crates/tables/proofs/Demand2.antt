@@ -18,11 +18,11 @@ use Rattle.records.specs.Layout.{keySize}
 use Rattle.records.specs.declared.Key.{Key}
 use Rattle.records.specs.declared.Rule.{Rule}
 use Rattle.rules.specs.Meaning.{firstRule}
-use Rattle.tables.proofs.Any.{any}
 use Rattle.tables.proofs.Headers.{key-match}
 use Rattle.tables.proofs.RuleRecords.{Of, rule-records}
-use Rattle.tables.proofs.RuleWords.{AllSound, entryMatches, words-match}
+use Rattle.tables.proofs.RuleWords.{words-match}
 use Rattle.tables.specs.Looking.{bytesMatch, firstRecord}
+use Rattle.tables.specs.Meaning.{AllSound, any, entryMatches, forget}
 
 -- the first of the records that matches the header, the first having index j: 1, its index, its rule and its action; or 0
 unfoldable pub lookup : ℕ → List Entry → Key → Answer
@@ -48,10 +48,6 @@ find-table h l b (e ∷ es) j rest =
     ∙ ap₂ (λ (m : Bool) (a : Answer). if m then done 1 j (e .rule) (e .action) else a) (key-match (e .value) (e .mask) h l b) (find-table h l b es (j + 1) rest)
 
 -- ---- in numbers
-
--- the answer without the record's index
-abbrev pub forget : Answer → Answer
-forget r = record { no = r .no; a = r .a; b = r .c; c = r .d; d = 0 }
 
 -- the records of one rule before any others
 rule-first : (h : Key) (i : ℕ) (r : Rule) (fs es : List Entry) → ((e : Entry) → List·Memᴰ e fs → Of i r e) → (j : ℕ)

@@ -22,7 +22,8 @@ use Rattle.blocks.specs.declared.Word.{Word}
 use Rattle.entries.specs.Words.{addrWord, protoWord, protoWords}
 use Rattle.records.specs.declared.Rule.{Rule}
 use Rattle.rules.specs.Meaning.{addrMatch, portMatch, protoMatch}
-use Rattle.tables.proofs.Any.{AtMostOne, Passes, any, one-passes}
+use Rattle.tables.specs.Meaning.{AtMostOne, any}
+use Rattle.tables.proofs.Any.{Passes, one-passes}
 use Rattle.tables.proofs.Parts.{equal-parts, same-test}
 
 -- the word matches x

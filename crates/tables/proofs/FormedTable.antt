@@ -15,8 +15,8 @@ use Rattle.records.specs.Keys.{keyBytes}
 use Rattle.records.specs.declared.Rule.{Rule}
 use Rattle.tables.proofs.Headers.{match-key}
 use Rattle.tables.proofs.RuleRecords.{rule-records}
-use Rattle.tables.proofs.RuleWords.{AllSound, entryMatches}
 use Rattle.tables.specs.Looking.{bytesMatch, firstIll}
+use Rattle.tables.specs.Meaning.{AllSound, entryMatches}
 
 record FormedEntry (e : Entry) : Type 0 where
   word : entryMatches (e .value) e ≡ true

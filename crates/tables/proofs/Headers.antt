@@ -14,16 +14,8 @@ use Rattle.records.specs.Keys.{keyAt, keyBytes}
 use Rattle.records.specs.Layout.{keySize}
 use Rattle.records.specs.declared.Key.{Key}
 use Rattle.tables.specs.Looking.{bytesMatch}
+use Rattle.tables.specs.Meaning.{keyMatch}
 use Rattle.tables.proofs.Parts.{match-split}
-
--- field by field
-unfoldable pub keyMatch : Key → Key → Key → Bool
-keyMatch v m h =
-    matches? (word (v .proto) (m .proto)) (h .proto)
-    && (matches? (word (v .src) (m .src)) (h .src)
-    && (matches? (word (v .dst) (m .dst)) (h .dst)
-    && (matches? (word (v .sport) (m .sport)) (h .sport)
-    && matches? (word (v .dport) (m .dport)) (h .dport))))
 
 -- ---- bytes of one field, and then more
 

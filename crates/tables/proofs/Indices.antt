@@ -2,7 +2,7 @@
 use mathlib.Core.Bool.{Bool, true, false, not}
 use mathlib.Core.List.{List}
 use mathlib.Core.Path.{_≡_, refl, sym, ap, _∙_}
-use Prim.Native.Nat.{ℕ, zero, suc, _+_, _*_, _<_}
+use Prim.Native.Nat.{ℕ, zero, suc, _+_, _*_}
 use native.Mathlib.Omega.{arith}
 use lib.ListN.{drop}
 use lib.Seq.{drop-drop}
@@ -12,22 +12,10 @@ use Rattle.answers.specs.declared.Lowest.the-variants.{None, At}
 use Rattle.bits.specs.Choice.{if_then_else_}
 use Rattle.records.specs.Entries.{actionOf, numberOf}
 use Rattle.records.specs.Layout.{recordSize}
+use Rattle.tables.specs.Indices.{Each, First, FirstMatch, matching, recordAt}
 use Rattle.tables.specs.Looking.{firstIll, firstRecord, recordFormed?, recordMatches?}
 
 -- ---- a test of each record
-
-abbrev pub recordAt : ℕ → List ℕ → List ℕ
-recordAt i t = drop (recordSize * i) t
-
--- the test says c of each of the first k records
-abbrev pub Each : (List ℕ → Bool) → Bool → ℕ → List ℕ → Type 0
-Each test c k t = (j : ℕ) → j < k → test (recordAt j t) ≡ c
-
--- of the first k records that at i is the first of which the test says c
-pub record First (test : List ℕ → Bool) (c : Bool) (k : ℕ) (t : List ℕ) (i : ℕ) : Type 0 where
-  pub within : i < k
-  pub here : test (recordAt i t) ≡ c
-  pub before : Each test (not c) i t
 
 record-next : (i : ℕ) (t : List ℕ) → recordAt (suc i) t ≡ recordAt i (drop recordSize t)
 record-next i t = let s : recordSize * suc i ≡ recordSize + recordSize * i = omega arith in rw s (sym (drop-drop (recordSize * i) recordSize t))
@@ -77,15 +65,6 @@ pub none-ill : (k : ℕ) (t : List ℕ) → firstIll k 0 t ≡ None → Each rec
 none-ill k t = none-from k 0 t
 
 -- ---- the first record that matches, the first having index b
-
-abbrev pub matching : List ℕ → List ℕ → Bool
-matching h t = recordMatches? t h
-
--- j is the index of the first of k records that matches, i its rule number and a its action
-pub record FirstMatch (k : ℕ) (t h : List ℕ) (j i a : ℕ) : Type 0 where
-  pub first : First (matching h) true k t j
-  pub number : i ≡ numberOf (recordAt j t)
-  pub action : a ≡ actionOf (recordAt j t)
 
 apart : (j i a : ℕ) → done 0 0 0 0 ≡ done 1 j i a → ⊥
 apart j i a e = let z : _≡_ {A = ℕ} 0 1 = ap (λ (r : Answer). r .a) e in omega arith

@@ -12,9 +12,8 @@ use Rattle.blocks.specs.declared.Word.{Word}
 use Rattle.entries.specs.Words.{destWords, each, entryWith, protoWords, ruleEntries, sourceWords}
 use Rattle.records.specs.Entries.{Entry}
 use Rattle.records.specs.declared.Rule.{Rule}
+use Rattle.tables.specs.Meaning.{Sound, entryMatches, keyMatch}
 use Rattle.tables.proofs.FieldWords.{addr-own, hit, proto-own, words-formed}
-use Rattle.tables.proofs.Headers.{keyMatch}
-use Rattle.tables.proofs.RuleWords.{Sound, entryMatches}
 
 -- the record is one of rule number i; a word is well formed when it matches its own value
 pub record Of (i : ℕ) (r : Rule) (e : Entry) : Type 0 where

@@ -1,34 +1,17 @@
 -- A rule's words match exactly the headers that the rule matches, and no two of them overlap. Assumes nothing.
 use mathlib.Core.Bool.{Bool, false, _&&_, and-false}
-use mathlib.Core.List.{List, [], _∷_, map}
+use mathlib.Core.List.{map}
 use mathlib.Core.Path.{_≡_, refl}
-use Prim.Native.Nat.{ℕ, _-_, _%_, _^_, _≤_}
+use Prim.Native.Nat.{ℕ}
 use Rattle.blocks.specs.declared.Word.{Word}
 use Rattle.entries.specs.Words.{addrWord, destWords, each, entryWith, ruleEntries, sourceWords}
-use Rattle.records.proofs.Reading.{RuleFits}
-use Rattle.records.specs.Entries.{Entry}
 use Rattle.records.specs.Keys.{KeyFits}
 use Rattle.records.specs.declared.Key.{Key}
 use Rattle.records.specs.declared.Rule.{Rule}
 use Rattle.rules.specs.Meaning.{portMatch, ruleMatch}
-use Rattle.tables.proofs.Any.{AtMostOne, Passes, any, each-passes, map-passes}
+use Rattle.tables.specs.Meaning.{AtMostOne, Sound, any, entryMatches, keyMatch}
+use Rattle.tables.proofs.Any.{Passes, each-passes, map-passes}
 use Rattle.tables.proofs.FieldWords.{addr-hit, hit, port-passes, proto-passes}
-use Rattle.tables.proofs.Headers.{keyMatch}
-
--- what is asked of a rule: its fields fit their bytes, no bit of an address is set beyond its length, and the action is known
-pub record Sound (r : Rule) : Type 0 where
-  pub fits : RuleFits r
-  pub src : r .src % 2 ^ (32 - r .slen) ≡ 0
-  pub dst : r .dst % 2 ^ (32 - r .dlen) ≡ 0
-  pub action : r .action ≤ 3
-
-abbrev pub AllSound : List Rule → Type 0
-AllSound [] = Unit {0}
-AllSound (r ∷ rs) = Sound r × AllSound rs
-
--- the record's word matches the header
-abbrev pub entryMatches : Key → Entry → Bool
-entryMatches h e = keyMatch (e .value) (e .mask) h
 
 module _ (r : Rule) (i : ℕ) (h : Key) where
   -- the five tests, those of the protocol and the ports being given

@@ -1,2 +1,4 @@
 pub mod Compiling
 pub mod Looking
+pub mod Meaning
+pub mod Indices
