@@ -55,6 +55,10 @@ all-sound (suc n) i l b e =
       all-sound n (i + 1) (drop ruleSize l) (λ (j : ℕ). rw getD-drop (b (ruleSize + j))) (g .1),
     )
 
+-- so what the laws about a rule's words ask of a rule holds of each rule of a well-formed list
+pub rules-sound : (l : List ℕ) → Bytes l → testedRules l ≡ Good → AllSound (allRules l)
+rules-sound l b e = all-sound (length l / ruleSize) 0 l b (good-list l e .good)
+
 -- ---- what compiling answers
 
 fault-some : (f : ListFault) → listFaultAs f .no ≡ 0 → ⊥
@@ -106,7 +110,7 @@ module _ (l before : List ℕ) (bl : Bytes l) (r : Compiled) (t : List ℕ) (c :
   length-is = length-entries 0 (allRules l)
 
   sound : AllSound (allRules l)
-  sound = all-sound (length l / ruleSize) 0 l bl (good-list l (holds .good) .good)
+  sound = rules-sound l bl (holds .good)
 
   fits : 0 + length (tableBytes entries) ≤ length before
   fits = omega (arith, length-table entries, length-is, holds .room)
