@@ -1,8 +1,10 @@
 -- Any two outcomes of `find_rule`, and of `test_rules`, that the contracts allow for one input coincide.
--- Each answer can be read back from document 01's number and values, so equal numbers mean equal answers. Assumes nothing.
+-- Each answer can be read back from document 01's number and values, so equal numbers mean equal answers; and a refused list's
+-- number is never 0. Assumes nothing.
 use mathlib.Core.List.{List}
 use mathlib.Core.Path.{_≡_, refl, sym, ap, _∙_}
 use Prim.Native.Nat.{ℕ}
+use native.Mathlib.Omega.{arith}
 use lib.Dec.{eqb}
 use Rattle.answers.proofs.ReadBack.{back}
 use Rattle.answers.specs.Refusals as refusal
@@ -44,6 +46,12 @@ found-back (found.Refused Odd) = ap found.Refused (fault-back Odd)
 found-back (found.Refused Many) = ap found.Refused (fault-back Many)
 found-back (found.Refused (Bad i f)) = ap found.Refused (fault-back (Bad i f))
 found-back found.Header = refl
+
+-- a refusal's number is not that of an answer
+pub fault-some : (f : ListFault) → listFaultAs f .no ≡ 0 → ⊥
+fault-some Odd e = omega arith
+fault-some Many e = omega arith
+fault-some (Bad i f) e = omega arith
 
 -- ---- two outcomes
 

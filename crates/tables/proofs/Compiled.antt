@@ -27,10 +27,9 @@ use Rattle.records.specs.Entries.{Entry, tableBytes}
 use Rattle.records.specs.Layout.{keySize, roomOf, ruleSize}
 use Rattle.records.specs.Rules.{allRules, ruleAt, rulesOf}
 use Rattle.rules.proofs.Goods.{fine, good-list, good-next}
-use Rattle.rules.specs.Faults.{behindRules, firstBad, listFaultAs, testedRules}
+use Rattle.rules.proofs.Settled.{fault-some}
+use Rattle.rules.specs.Faults.{behindRules, firstBad, testedRules}
 use Rattle.rules.specs.Finding as rule
-use Rattle.rules.specs.declared.faults.ListFault.{ListFault}
-use Rattle.rules.specs.declared.faults.ListFault.the-variants.{Odd, Many, Bad}
 use Rattle.rules.specs.declared.faults.ListTest.{ListTest}
 use Rattle.rules.specs.declared.faults.ListTest.the-variants.{Good, Refused}
 use Rattle.rules.specs.declared.finding.Found as rule-answer
@@ -60,11 +59,6 @@ pub rules-sound : (l : List ℕ) → Bytes l → testedRules l ≡ Good → AllS
 rules-sound l b e = all-sound (length l / ruleSize) 0 l b (good-list l e .good)
 
 -- ---- what compiling answers
-
-fault-some : (f : ListFault) → listFaultAs f .no ≡ 0 → ⊥
-fault-some Odd e = omega arith
-fault-some Many e = omega arith
-fault-some (Bad i f) e = omega arith
 
 module _ (l : List ℕ) (bytes : ℕ) (good : testedRules l ≡ Good) where
   -- turned down, with the number of words needed, where they outnumber the room

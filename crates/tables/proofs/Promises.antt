@@ -1,14 +1,11 @@
 -- The promise of compiling at each return, and that a well-formed list is turned down exactly for lack of room.
 -- Assumes nothing.
-use mathlib.Core.Bool.{false}
 use mathlib.Core.List.{List}
 use mathlib.Core.Path.{_≡_, refl, ap, _∙_}
 use Prim.Native.Nat.{ℕ, _≤_, _<_}
 use lib.Dec.{eqb}
 use lib.ListN.{length}
-use borrow.Author.Tests.{le-ltb, lt-ltb}
-use Rattle.answers.specs.Answers.{refused}
-use Rattle.answers.specs.Refusals as refusal
+use borrow.Author.Tests.{le-ltb, lt-ltb, ne-eqb}
 use Rattle.answers.specs.declared.Answer.{Answer}
 use Rattle.bits.specs.Choice.{if_then_else_}
 use Rattle.entries.specs.Words.{entriesOf, needed}
@@ -16,19 +13,14 @@ use Rattle.fields.specs.Writes.{writeAt}
 use Rattle.records.specs.Entries.{tableBytes}
 use Rattle.records.specs.Layout.{roomOf}
 use Rattle.records.specs.Rules.{allRules}
+use Rattle.rules.proofs.Settled.{fault-some}
 use Rattle.rules.specs.Faults.{behindRules, listFaultAs, testedRules}
 use Rattle.rules.specs.declared.faults.ListFault.{ListFault}
-use Rattle.rules.specs.declared.faults.ListFault.the-variants.{Odd, Many, Bad}
 use Rattle.rules.specs.declared.faults.ListTest.{ListTest}
 use Rattle.rules.specs.declared.faults.ListTest.the-variants as test
 use Rattle.tables.specs.Compiling.{Compiling, compiledAs, compiling, tableLeft}
 use Rattle.tables.specs.declared.compiling.Compiled.{Compiled}
 use Rattle.tables.specs.declared.compiling.Compiled.the-variants.{Words, Refused, Space}
-
-refusal-some : (f : ListFault) → eqb (listFaultAs f .no) 0 ≡ false
-refusal-some Odd = refl
-refusal-some Many = refl
-refusal-some (Bad i f) = refl
 
 module _ (l before : List ℕ) where
   -- what a table holds after an answer
@@ -41,7 +33,7 @@ module _ (l before : List ℕ) where
 
   pub compiling-refused : {r : ListTest} (f : ListFault) → r ≡ testedRules l → r ≡ test.Refused f → Compiling l before (Refused f) before
   unfolding compiling behindRules after
-  compiling-refused f e g = promise (Refused f) before (simp (← e, g)) (simp (refusal-some f))
+  compiling-refused f e g = promise (Refused f) before (simp (← e, g)) (simp (ne-eqb (listFaultAs f .no) 0 (fault-some f)))
 
   module _ (good : testedRules l ≡ test.Good) (k : ℕ) (ek : k ≡ needed (allRules l)) where
     pub compiling-space : roomOf (length before) < k → Compiling l before (Space k) before
