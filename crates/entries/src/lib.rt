@@ -1,5 +1,6 @@
-// One rule's records: every protocol word with every source port word with every destination port word, in that nesting;
-// how many they are, and writing them. Each function has one loop and hands back where the next record goes.
+// One rule's records: its protocol word with every source port word with every destination port word, in that nesting;
+// how many they are, and writing them. Each port has its loop in a function of its own, which hands back where the next
+// record goes.
 ghost use mathlib.Core.Path.{_≡_};
 ghost use Prim.Native.Nat.{_*_, _+_, _-_, _≤_};
 ghost use lib.ListN.{length};

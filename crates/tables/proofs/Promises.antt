@@ -1,5 +1,4 @@
--- The promise of compiling at each return, and that a well-formed list is turned down exactly for lack of room.
--- Assumes nothing.
+-- The promise of compiling holds at each return: a refused list, too little room, the records written. Assumes nothing.
 use mathlib.Core.List.{List}
 use mathlib.Core.Path.{_≡_, refl, ap, _∙_}
 use Prim.Native.Nat.{ℕ, _≤_, _<_}
