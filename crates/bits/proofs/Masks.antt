@@ -1,17 +1,20 @@
 -- Powers of two as the code makes them, and how the mask of a narrower width follows from the table. Assumes nothing.
 use mathlib.Core.Path.{_≡_, sym, ap, ap₂, _∙_}
-use Prim.Native.Nat.{ℕ, _+_, _-_, _*_, _/_, _%_, _^_, _≤_}
+use Prim.Native.Nat.{ℕ, _+_, _-_, _*_, _/_, _%_, _^_, _≤_, _<_}
 use native.Mathlib.Omega.{arith}
 use native.Mathlib.Nat.{mod-eq-of-lt, one-mul, mul-sub, mul-comm}
-use lib.Pow.{pow-pos, pow-mono, pow-add, shl-shr}
+use lib.Pow.{pow-pos, pow-mono, pow-lt, pow-add, shl-shr}
 use Rattle.bits.specs.Masks.{Power, maskOf}
 
--- a shift of 1 by k, at 32 bits
+-- a shift of 1 by k, at w bits
+pub shift-is : (w k : ℕ) → k < w → (1 * 2 ^ k) % 2 ^ w ≡ 2 ^ k
+shift-is w k h = ap (λ (x : ℕ). x % 2 ^ w) (one-mul (2 ^ k)) ∙ mod-eq-of-lt (pow-lt h)
+
+-- at 32 bits, with its bounds
 pub power-law : (k : ℕ) → k ≤ 16 → Power k ((1 * 2 ^ k) % 2 ^ 32)
 power-law k h =
-    let s : 2 ^ k ≤ 2 ^ 16 = pow-mono h in
-    let e : (1 * 2 ^ k) % 2 ^ 32 ≡ 2 ^ k = ap (λ (x : ℕ). x % 2 ^ 32) (one-mul (2 ^ k)) ∙ mod-eq-of-lt (omega arith) in
-    record { is = e; some = omega (arith, pow-pos k); small = omega arith }
+    let e = shift-is 32 k (omega arith) in
+    record { is = e; some = omega (arith, pow-pos k); small = omega (arith, pow-mono h) }
 
 sub-mul : (a b c : ℕ) → a * c - b * c ≡ (a - b) * c
 sub-mul a b c = ap₂ (λ (x y : ℕ). x - y) (mul-comm a c) (mul-comm b c) ∙ sym (mul-sub c a b) ∙ mul-comm c (a - b)
