@@ -3,7 +3,7 @@ use mathlib.Core.List.{List, [], _∷_, _++_}
 use Prim.Native.Nat.{ℕ}
 use lib.ListN.{drop, getD, take}
 use Rattle.records.specs.Keys.{keyBytes}
-use Rattle.records.specs.Layout.{keySize}
+use Rattle.records.specs.Layout.{actionAt, keySize, numberAt}
 use Rattle.records.specs.declared.Key.{Key}
 
 -- a word of all five fields, the rule that it belongs to, and that rule's action
@@ -35,7 +35,7 @@ abbrev pub maskOfRecord : List ℕ → List ℕ
 maskOfRecord t = take keySize (drop keySize t)
 
 abbrev pub numberOf : List ℕ → ℕ
-numberOf t = getD t 26 0
+numberOf t = getD t numberAt 0
 
 abbrev pub actionOf : List ℕ → ℕ
-actionOf t = getD t 27 0
+actionOf t = getD t actionAt 0

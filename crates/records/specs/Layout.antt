@@ -1,5 +1,5 @@
 -- The sizes and limits of document 01's records, each named once.
-use Prim.Native.Nat.{ℕ, _/_, min}
+use Prim.Native.Nat.{ℕ, _+_, _*_, _/_, min}
 
 -- bytes of a header, of a value and of a mask
 abbrev pub keySize : ℕ
@@ -13,9 +13,16 @@ ruleSize = 21
 abbrev pub ruleLimit : ℕ
 ruleLimit = 256
 
--- bytes of a table record
+-- bytes of a table record: value, mask, rule number, action
 abbrev pub recordSize : ℕ
 recordSize = 28
+
+-- where a record's rule number and action stand
+abbrev pub numberAt : ℕ
+numberAt = 2 * keySize
+
+abbrev pub actionAt : ℕ
+actionAt = numberAt + 1
 
 -- the most words of a table
 abbrev pub wordLimit : ℕ

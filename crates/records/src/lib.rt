@@ -24,11 +24,11 @@ pub const WORD_LIMIT: usize = 2048;
 // Bytes of the largest table.
 pub const TABLE_BYTES: usize = RECORD_SIZE * WORD_LIMIT;
 // Where a record's mask, rule number and action stand.
-pub const MASK_AT: usize = 13;
+pub const MASK_AT: usize = KEY_SIZE;
 
-pub const NUMBER_AT: usize = 26;
+pub const NUMBER_AT: usize = 2 * KEY_SIZE;
 
-pub const ACTION_AT: usize = 27;
+pub const ACTION_AT: usize = NUMBER_AT + 1;
 
 // What a header, a value or a mask holds.
 pub struct Key {

@@ -2,7 +2,7 @@
 use mathlib.Core.Bool.{Bool, true, false}
 use mathlib.Core.List.{List}
 use mathlib.Core.Path.{_≡_}
-use Prim.Native.Nat.{ℕ, suc, _+_, _-_, _*_, _≤_, _<_}
+use Prim.Native.Nat.{ℕ, suc, _+_, _-_, _≤_, _<_}
 use native.Mathlib.Nat.{sub-zero}
 use native.Mathlib.Omega.{arith}
 use lib.ListN.{drop, getD, length, take}
@@ -14,7 +14,7 @@ use Rattle.answers.specs.declared.Answer.{Answer}
 use Rattle.answers.specs.declared.Lowest.{Lowest}
 use Rattle.answers.specs.declared.Lowest.the-variants.{None, At}
 use Rattle.fields.proofs.Writing.{rest-is}
-use Rattle.records.specs.Layout.{keySize, recordSize, roomOf}
+use Rattle.records.specs.Layout.{actionAt, keySize, numberAt, recordSize, roomOf}
 use Rattle.tables.specs.Looking.{firstIll, firstRecord, looking, lookingFormed, recordFormed?, recordMatches?}
 
 -- ---- the records from the i-th of k on, which stands at place at
@@ -58,10 +58,10 @@ module _ (t : List ℕ) (k : ℕ) (x : List ℕ) where
     record-none h = let n : k - i ≡ 0 = omega arith in rw n
 
     module _ {b : Bool} (h : i < k) (e : b ≡ recordMatches? (take (length t - at) (drop at t)) x) where
-      pub record-here : {n : ℕ} → b ≡ true → n ≡ getD t (at + 2 * keySize) 0
-          → recordFrom i at ≡ done 1 i n (getD t (at + (2 * keySize + 1)) 0)
+      pub record-here : {n : ℕ} → b ≡ true → n ≡ getD t (at + numberAt) 0
+          → recordFrom i at ≡ done 1 i n (getD t (at + actionAt) 0)
       unfolding recordFrom firstRecord
-      record-here f g = rw (g, one-less k i h, ← getD-drop at t (2 * keySize) 0, ← getD-drop at t (2 * keySize + 1) 0, ← rest-is t at, ← e, f)
+      record-here f g = rw (g, one-less k i h, ← getD-drop at t numberAt 0, ← getD-drop at t actionAt 0, ← rest-is t at, ← e, f)
 
       pub record-turn : b ≡ false → recordFrom i at ≡ recordFrom (i + 1) (at + recordSize)
       unfolding recordFrom firstRecord
