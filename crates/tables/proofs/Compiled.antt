@@ -33,10 +33,10 @@ use Rattle.rules.specs.Finding as rule
 use Rattle.rules.specs.declared.faults.ListTest.{ListTest}
 use Rattle.rules.specs.declared.faults.ListTest.the-variants.{Good, Refused}
 use Rattle.rules.specs.declared.finding.Found as rule-answer
-use Rattle.tables.specs.Compiling.{Compiling, compiledAs, compiling, tableLeft}
+use Rattle.tables.specs.Compiling.{Compiling, Taken, compiledAs, compiling, tableLeft}
 use Rattle.tables.specs.Looking.{firstIll, firstRecord, foundAs, looking, lookingFormed}
 use Rattle.tables.specs.Meaning.{AllSound, forget}
-use Rattle.tables.specs.declared.compiling.Compiled.{Compiled}
+use Rattle.tables.specs.declared.compiling.Compiled.the-variants.{Words}
 use Rattle.tables.specs.declared.finding.Found.{Found}
 use Rattle.tables.proofs.Demand2.{table-finds}
 use Rattle.tables.proofs.FormedTable.{compiled-formed}
@@ -71,12 +71,8 @@ module _ (l : List ℕ) (bytes : ℕ) (good : testedRules l ≡ Good) where
   unfolding compiling behindRules
   taken h = simp (good, le-ltb (roomOf bytes) (needed (allRules l)) h)
 
--- what a list that was compiled has
-record Taken (l : List ℕ) (bytes : ℕ) : Type 0 where
-  good : testedRules l ≡ Good
-  room : needed (allRules l) ≤ roomOf bytes
-
-was-taken : (l : List ℕ) (bytes : ℕ) → compiling l bytes .no ≡ 0 → Taken l bytes
+-- and only such a list is taken
+pub was-taken : (l : List ℕ) (bytes : ℕ) → compiling l bytes .no ≡ 0 → Taken l bytes
 unfolding compiling behindRules
 was-taken l bytes e = go (testedRules l) refl (le-or-lt (needed (allRules l)) (roomOf bytes)) e
   where
@@ -89,14 +85,14 @@ was-taken l bytes e = go (testedRules l) refl (le-or-lt (needed (allRules l)) (r
 
 -- ---- the compiled table
 
-module _ (l before : List ℕ) (bl : Bytes l) (r : Compiled) (t : List ℕ) (c : Compiling l before r t) (ok : compiledAs r .no ≡ 0) where
+module _ (l before : List ℕ) (bl : Bytes l) (r : Answer) (t : List ℕ) (c : Compiling l before r t) (ok : r .no ≡ 0) where
   entries : List Entry
   entries = entriesOf 0 (allRules l)
 
   holds : Taken l (length before)
-  holds = was-taken l (length before) (ap (λ (a : Answer). a .no) (sym (c .says)) ∙ ok)
+  holds = was-taken l (length before) (sym (ap (λ (a : Answer). a .no) (c .says)) ∙ ok)
 
-  count : compiledAs r .a ≡ needed (allRules l)
+  count : r .a ≡ needed (allRules l)
   count = ap (λ (a : Answer). a .a) (c .says ∙ taken l (length before) (holds .good) (holds .room))
 
   length-is : length entries ≡ needed (allRules l)
@@ -121,15 +117,15 @@ module _ (l before : List ℕ) (bl : Bytes l) (r : Compiled) (t : List ℕ) (c :
   same-length = ap length written ∙ length-write before 0 (tableBytes entries) fits
 
   -- what compile writes is never refused with 9 or 10 under the returned count
-  pub never-stated : compiledAs r .a ≤ roomOf (length t)
+  pub never-stated : r .a ≤ roomOf (length t)
   never-stated = omega (arith, count, holds .room, ap roomOf same-length)
 
-  pub never-ill : firstIll (compiledAs r .a) 0 t ≡ None
+  pub never-ill : firstIll (r .a) 0 t ≡ None
   unfolding entries
   never-ill = rw (count, ← length-is, written) (compiled-formed 0 (allRules l) sound 0 rest)
 
-  looked : (h : List ℕ) → looking t (compiledAs r .a) h ≡ lookingFormed t (compiledAs r .a) h
-  looked h = looking-found t (compiledAs r .a) h never-stated never-ill
+  looked : (h : List ℕ) → looking t (r .a) h ≡ lookingFormed t (r .a) h
+  looked h = looking-found t (r .a) h never-stated never-ill
 
   -- the rule list's answer, as the list is well formed
   read : (h : List ℕ) → rule.finding l h ≡ rule.findingGood l h
@@ -137,22 +133,23 @@ module _ (l before : List ℕ) (bl : Bytes l) (r : Compiled) (t : List ℕ) (c :
   read h = simp (holds .good)
 
   -- the one equation: whatever the header, the table's answer without the record's index is the rule list's answer
-  pub finds-same : (h : List ℕ) → Bytes h → forget (looking t (compiledAs r .a) h) ≡ rule.finding l h
+  pub finds-same : (h : List ℕ) → Bytes h → forget (looking t (r .a) h) ≡ rule.finding l h
   unfolding rule.findingGood entries
   finds-same h bh = go (eqb (length h) keySize) refl
     where
-      go : (b : Bool) → eqb (length h) keySize ≡ b → forget (looking t (compiledAs r .a) h) ≡ rule.finding l h
+      go : (b : Bool) → eqb (length h) keySize ≡ b → forget (looking t (r .a) h) ≡ rule.finding l h
       go true e =
           let z : length h ≡ keySize = eqb-true (length h) keySize e in
-          ap forget (looked h ∙ formed-found t (compiledAs r .a) h z)
+          ap forget (looked h ∙ formed-found t (r .a) h z)
           ∙ ap forget (ap₂ (λ (k : ℕ) (u : List ℕ). firstRecord k 0 u h) (count ∙ sym length-is) written)
           ∙ table-finds (allRules l) sound h z bh rest
           ∙ sym (read h ∙ simp e)
       go false e =
-          ap forget (looked h ∙ sym (formed-header t (compiledAs r .a) h (eqb-false (length h) keySize e)))
+          ap forget (looked h ∙ sym (formed-header t (r .a) h (eqb-false (length h) keySize e)))
           ∙ sym (read h ∙ simp e)
 
-  -- and so it is of what the two calls return
-  pub calls-agree : (h : List ℕ) → Bytes h → (f : Found) (g : rule-answer.Found) → foundAs f ≡ looking t (compiledAs r .a) h → rule.foundAs g ≡ rule.finding l h
-      → forget (foundAs f) ≡ rule.foundAs g
-  calls-agree h bh f g ef eg = ap forget ef ∙ finds-same h bh ∙ sym eg
+-- and so it is of what the calls return: where `compile` returns k words, `find_word` finds what `find_rule` finds
+pub calls-agree : (l before : List ℕ) → Bytes l → (k : ℕ) (t : List ℕ) → Compiling l before (compiledAs (Words k)) t
+    → (h : List ℕ) → Bytes h → (f : Found) (g : rule-answer.Found) → foundAs f ≡ looking t k h → rule.foundAs g ≡ rule.finding l h
+    → forget (foundAs f) ≡ rule.foundAs g
+calls-agree l before bl k t c h bh f g ef eg = ap forget ef ∙ finds-same l before bl (compiledAs (Words k)) t c refl h bh ∙ sym eg

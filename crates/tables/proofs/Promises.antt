@@ -18,7 +18,6 @@ use Rattle.rules.specs.declared.faults.ListFault.{ListFault}
 use Rattle.rules.specs.declared.faults.ListTest.{ListTest}
 use Rattle.rules.specs.declared.faults.ListTest.the-variants as test
 use Rattle.tables.specs.Compiling.{Compiling, compiledAs, compiling, tableLeft}
-use Rattle.tables.specs.declared.compiling.Compiled.{Compiled}
 use Rattle.tables.specs.declared.compiling.Compiled.the-variants.{Words, Refused, Space}
 
 module _ (l before : List ℕ) where
@@ -26,19 +25,19 @@ module _ (l before : List ℕ) where
   after : Answer → List ℕ
   after a = if eqb (a .no) 0 then writeAt before 0 (tableBytes (entriesOf 0 (allRules l))) else before
 
-  promise : (r : Compiled) (t : List ℕ) → compiledAs r ≡ compiling l (length before) → t ≡ after (compiledAs r) → Compiling l before r t
+  promise : (r : Answer) (t : List ℕ) → r ≡ compiling l (length before) → t ≡ after r → Compiling l before r t
   unfolding tableLeft after
   promise r t e h = record { says = e; leaves = h ∙ ap after e }
 
-  pub compiling-refused : {r : ListTest} (f : ListFault) → r ≡ testedRules l → r ≡ test.Refused f → Compiling l before (Refused f) before
+  pub compiling-refused : {r : ListTest} (f : ListFault) → r ≡ testedRules l → r ≡ test.Refused f → Compiling l before (compiledAs (Refused f)) before
   unfolding compiling behindRules after
-  compiling-refused f e g = promise (Refused f) before (simp (← e, g)) (simp (ne-eqb (listFaultAs f .no) 0 (fault-some f)))
+  compiling-refused f e g = promise (compiledAs (Refused f)) before (simp (← e, g)) (simp (ne-eqb (listFaultAs f .no) 0 (fault-some f)))
 
   module _ (good : testedRules l ≡ test.Good) (k : ℕ) (ek : k ≡ needed (allRules l)) where
-    pub compiling-space : roomOf (length before) < k → Compiling l before (Space k) before
+    pub compiling-space : roomOf (length before) < k → Compiling l before (compiledAs (Space k)) before
     unfolding compiling behindRules after
-    compiling-space h = promise (Space k) before (simp (good, ← ek, lt-ltb (roomOf (length before)) k h)) refl
+    compiling-space h = promise (compiledAs (Space k)) before (simp (good, ← ek, lt-ltb (roomOf (length before)) k h)) refl
 
-    pub compiling-words : k ≤ roomOf (length before) → (t : List ℕ) → t ≡ writeAt before 0 (tableBytes (entriesOf 0 (allRules l))) → Compiling l before (Words k) t
+    pub compiling-words : k ≤ roomOf (length before) → (t : List ℕ) → t ≡ writeAt before 0 (tableBytes (entriesOf 0 (allRules l))) → Compiling l before (compiledAs (Words k)) t
     unfolding compiling behindRules after
-    compiling-words h t et = promise (Words k) t (simp (good, ← ek, le-ltb (roomOf (length before)) k h)) et
+    compiling-words h t et = promise (compiledAs (Words k)) t (simp (good, ← ek, le-ltb (roomOf (length before)) k h)) et

@@ -4,13 +4,14 @@ use mathlib.Core.List.{List}
 use mathlib.Core.Path.{_≡_, refl, sym, ap, _∙_}
 use Prim.Native.Nat.{ℕ}
 use lib.Dec.{eqb}
+use lib.ListN.{length}
 use Rattle.answers.proofs.ReadBack.{back}
 use Rattle.answers.specs.Refusals as refusal
 use Rattle.answers.specs.declared.Answer.{Answer}
 use Rattle.bits.specs.Choice.{if_then_else_}
 use Rattle.rules.proofs.Settled.{fault-back, listFaultFrom}
 use Rattle.rules.specs.declared.faults.ListFault.the-variants.{Odd, Many, Bad}
-use Rattle.tables.specs.Compiling.{Compiling, compiledAs}
+use Rattle.tables.specs.Compiling.{Compiling, compiledAs, compiling}
 use Rattle.tables.specs.Looking.{foundAs, looking}
 use Rattle.tables.specs.declared.compiling.Compiled.{Compiled}
 use Rattle.tables.specs.declared.compiling.Compiled.the-variants as compiled
@@ -53,6 +54,7 @@ compiled-back (compiled.Refused (Bad i f)) = ap compiled.Refused (fault-back (Ba
 pub one-word : (t : List ℕ) (k : ℕ) (h : List ℕ) (r s : Found) → foundAs r ≡ looking t k h → foundAs s ≡ looking t k h → r ≡ s
 one-word t k h = back foundAs foundFrom found-back (looking t k h)
 
-pub one-compile : (l before : List ℕ) (r s : Compiled) (x y : List ℕ) → Compiling l before r x → Compiling l before s y → (r ≡ s) × (x ≡ y)
+pub one-compile : (l before : List ℕ) (r s : Compiled) (x y : List ℕ)
+    → Compiling l before (compiledAs r) x → Compiling l before (compiledAs s) y → (r ≡ s) × (x ≡ y)
 one-compile l before r s x y p q =
-    (back compiledAs compiledFrom compiled-back (compiledAs s) r s (p .says ∙ sym (q .says)) refl, p .leaves ∙ sym (q .leaves))
+    (back compiledAs compiledFrom compiled-back (compiling l (length before)) r s (p .says) (q .says), p .leaves ∙ sym (q .leaves))

@@ -1,7 +1,7 @@
 -- Compiling a rule list: what is answered, and what a lent table holds afterwards.
 use mathlib.Core.List.{List}
 use mathlib.Core.Path.{_≡_}
-use Prim.Native.Nat.{ℕ}
+use Prim.Native.Nat.{ℕ, _≤_}
 use lib.Dec.{eqb, ltb}
 use lib.ListN.{length}
 use Rattle.answers.specs.Answers.{done, refused}
@@ -14,6 +14,7 @@ use Rattle.records.specs.Entries.{tableBytes}
 use Rattle.records.specs.Layout.{roomOf}
 use Rattle.records.specs.Rules.{allRules}
 use Rattle.rules.specs.Faults.{behindRules, listFaultAs, testedRules}
+use Rattle.rules.specs.declared.faults.ListTest.the-variants.{Good}
 use Rattle.tables.specs.declared.compiling.Compiled.{Compiled}
 use Rattle.tables.specs.declared.compiling.Compiled.the-variants.{Words, Refused, Space}
 
@@ -34,7 +35,12 @@ unfoldable pub tableLeft : List ℕ → List ℕ → List ℕ
 tableLeft l before =
     if eqb (compiling l (length before) .no) 0 then writeAt before 0 (tableBytes (entriesOf 0 (allRules l))) else before
 
--- the promise of `compile`
-pub record Compiling (l before : List ℕ) (r : Compiled) (after : List ℕ) : Type 0 where
-  pub says : compiledAs r ≡ compiling l (length before)
+-- the promise of `compile`: what is answered, and what the lent table holds afterwards
+pub record Compiling (l before : List ℕ) (r : Answer) (after : List ℕ) : Type 0 where
+  pub says : r ≡ compiling l (length before)
   pub leaves : after ≡ tableLeft l before
+
+-- what a list has that was compiled into so many bytes: it is well formed, and there is room for its words
+pub record Taken (l : List ℕ) (bytes : ℕ) : Type 0 where
+  pub good : testedRules l ≡ Good
+  pub room : needed (allRules l) ≤ roomOf bytes

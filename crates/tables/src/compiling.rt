@@ -9,7 +9,7 @@ ghost use Rattle.records.specs.Layout.{recordSize, roomOf};
 ghost use Rattle.records.specs.Rules.{allRules};
 ghost use Rattle.rules.specs.Faults.{testedRules};
 ghost use Rattle.rules.specs.declared.faults.ListTest.the-variants as test;
-ghost use Rattle.tables.specs.Compiling.{Compiling};
+ghost use Rattle.tables.specs.Compiling.{Compiling, compiledAs};
 use records::RECORD_SIZE;
 use records::RULE_SIZE;
 use records::WORD_LIMIT;
@@ -72,7 +72,7 @@ pub fn room(bytes: usize) -> usize
 // Compiles a well-formed list, where there is room.
 fn compile_good(rules: &[u8], table: &mut [u8]) -> Compiled
     requires { ⌜ testedRules (now rules) ≡ test.Good ⌝ }
-    ensures { λ r. ⌜ Compiling (now (rules .entry)) (now (table .entry)) r (now (table .exit)) ⌝ }
+    ensures { λ r. ⌜ Compiling (now (rules .entry)) (now (table .entry)) (compiledAs r) (now (table .exit)) ⌝ }
 {
     let k = total(rules);
     if room(table.len()) < k as usize {
@@ -83,7 +83,7 @@ fn compile_good(rules: &[u8], table: &mut [u8]) -> Compiled
 }
 
 pub fn compile(rules: &[u8], table: &mut [u8]) -> Compiled
-    ensures { λ r. ⌜ Compiling (now (rules .entry)) (now (table .entry)) r (now (table .exit)) ⌝ }
+    ensures { λ r. ⌜ Compiling (now (rules .entry)) (now (table .entry)) (compiledAs r) (now (table .exit)) ⌝ }
 {
     match rules::test_rules(rules) {
         ListTest::Refused(f) => Compiled::Refused(f),
