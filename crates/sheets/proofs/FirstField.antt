@@ -3,7 +3,7 @@
 use mathlib.Core.List.{List}
 use mathlib.Core.Path.{_≡_}
 use Prim.Native.Nat.{ℕ}
-use Rattle.rules.proofs.Lowest.{FirstTest}
+use Rattle.rules.specs.Lowest.{FirstTest}
 use Rattle.sheets.specs.BadLines.{badFields, badParts}
 use Rattle.sheets.specs.Rows.{rowFrom, rowOf}
 use Rattle.sheets.specs.declared.parts.Address.{Address}

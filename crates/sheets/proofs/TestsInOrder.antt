@@ -8,7 +8,7 @@ use native.Mathlib.Omega.{arith}
 use lib.ListN.{getD}
 use Rattle.bits.specs.Choice.{if_then_else_}
 use Rattle.records.specs.declared.Rule.{Rule}
-use Rattle.rules.proofs.Lowest.{FirstTest}
+use Rattle.rules.specs.Lowest.{FirstTest}
 use Rattle.sheets.specs.declared.rows.Row.{Row}
 use Rattle.sheets.specs.declared.rows.Row.the-variants.{Good, Bad}
 

@@ -8,10 +8,12 @@ use lib.IntN.{ℤ}
 use Rattle.answers.specs.declared.Answer.{Answer}
 use Rattle.intervals.specs.Bounds.{closing}
 use Rattle.intervals.specs.Checks.{checking}
-use Rattle.intervals.specs.Lists.{counting}
+use Rattle.intervals.specs.Lists.{Listing, counting}
 use Rattle.rules.specs.Finding.{finding}
+use Rattle.sheets.specs.Reading.{Reading}
+use Rattle.tables.specs.Compiling.{Compiling}
 use Rattle.tables.specs.Looking.{looking}
-use Rattle.tablet.specs.Faces.{Compiles, Lists, ReadsSheet, in32, stepFace}
+use Rattle.tablet.specs.Faces.{in32, stepFace}
 use Rattle.tablet.specs.declared.steps.Step.{Step}
 use Rattle.tablet.specs.declared.steps.Walk.{Walk}
 
@@ -22,7 +24,7 @@ pub one-count : (n low high : ℕ) (r s : Answer) → r ≡ counting n low high 
 one-count n low high r s p q = p ∙ sym q
 
 pub one-list : (n low high : ℕ) (before : List ℕ) (r s : Answer) (x y : List ℕ)
-    → Lists n low high before r x → Lists n low high before s y → (r ≡ s) × (x ≡ y)
+    → Listing n low high before r x → Listing n low high before s y → (r ≡ s) × (x ≡ y)
 one-list n low high before r s x y p q = (p .says ∙ sym (q .says), p .leaves ∙ sym (q .leaves))
 
 pub one-step : (w : Walk) (r s : Step) → r ≡ stepFace w → s ≡ stepFace w → r ≡ s
@@ -33,7 +35,7 @@ pub one-check : (n low high : ℕ) (l : List ℕ) (k : ℕ) (r s : Answer)
 one-check n low high l k r s p q = p ∙ sym q
 
 pub one-compile : (l before : List ℕ) (r s : Answer) (x y : List ℕ)
-    → Compiles l before r x → Compiles l before s y → (r ≡ s) × (x ≡ y)
+    → Compiling l before r x → Compiling l before s y → (r ≡ s) × (x ≡ y)
 one-compile l before r s x y p q = (p .says ∙ sym (q .says), p .leaves ∙ sym (q .leaves))
 
 pub one-rule : (l h : List ℕ) (r s : Answer) → r ≡ finding l h → s ≡ finding l h → r ≡ s
@@ -43,5 +45,5 @@ pub one-word : (t : List ℕ) (k : ℕ) (h : List ℕ) (r s : Answer) → r ≡ 
 one-word t k h r s p q = p ∙ sym q
 
 pub one-read : (t before : List ℕ) (r s : Answer) (x y : List ℕ)
-    → ReadsSheet t before r x → ReadsSheet t before s y → (r ≡ s) × (x ≡ y)
+    → Reading t before r x → Reading t before s y → (r ≡ s) × (x ≡ y)
 one-read t before r s x y p q = (p .says ∙ sym (q .says), p .leaves ∙ sym (q .leaves))

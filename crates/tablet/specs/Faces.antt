@@ -1,38 +1,17 @@
--- What the exported functions answer, through the definitions of the calls they hand on to.
+-- What the C face adds to the calls that it hands on to: an index in 32 bits, and a walk whose flag is a number.
 use mathlib.Core.Bool.{Bool, not}
-use mathlib.Core.List.{List}
-use mathlib.Core.Path.{_≡_}
 use Prim.Native.Nat.{ℕ, _%_, _^_}
 use lib.Dec.{eqb}
-use lib.ListN.{length}
 use Rattle.answers.specs.declared.Answer.{Answer}
 use Rattle.bits.specs.Choice.{if_then_else_}
-use Rattle.intervals.specs.Lists.{listLeft, listing}
 use Rattle.intervals.specs.Walks.{Stepped, stepping}
 use Rattle.intervals.specs.declared.walks.Walk as inner
-use Rattle.sheets.specs.Reading.{reading, rulesLeft}
-use Rattle.tables.specs.Compiling.{compiling, tableLeft}
 use Rattle.tablet.specs.declared.steps.Step.{Step}
 use Rattle.tablet.specs.declared.steps.Walk.{Walk}
 
 -- an answer whose first value is given in 32 bits
 abbrev pub in32 : Answer → Answer
 in32 r = record { no = r .no; a = r .a % 2 ^ 32; b = r .b; c = r .c; d = r .d }
-
--- the promise of ashkavorz_list
-pub record Lists (n low high : ℕ) (before : List ℕ) (r : Answer) (after : List ℕ) : Type 0 where
-  pub says : r ≡ listing n low high (length before)
-  pub leaves : after ≡ listLeft n low high before
-
--- the promise of ashkavorz_compile
-pub record Compiles (l before : List ℕ) (r : Answer) (after : List ℕ) : Type 0 where
-  pub says : r ≡ compiling l (length before)
-  pub leaves : after ≡ tableLeft l before
-
--- the promise of ashkavorz_read_sheet
-pub record ReadsSheet (s before : List ℕ) (r : Answer) (after : List ℕ) : Type 0 where
-  pub says : r ≡ reading s (length before)
-  pub leaves : after ≡ rulesLeft s before
 
 -- a walk as it is handed in: any number but 0 means ended
 abbrev pub handedIn : Walk → inner.Walk

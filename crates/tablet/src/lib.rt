@@ -6,10 +6,12 @@ mod steps;
 ghost use mathlib.Core.Path.{_≡_};
 ghost use Rattle.intervals.specs.Bounds.{closing};
 ghost use Rattle.intervals.specs.Checks.{checking};
-ghost use Rattle.intervals.specs.Lists.{counting};
+ghost use Rattle.intervals.specs.Lists.{Listing, counting};
 ghost use Rattle.rules.specs.Finding.{finding};
+ghost use Rattle.sheets.specs.Reading.{Reading};
+ghost use Rattle.tables.specs.Compiling.{Compiling};
 ghost use Rattle.tables.specs.Looking.{looking};
-ghost use Rattle.tablet.specs.Faces.{Compiles, Lists, ReadsSheet, in32, stepFace};
+ghost use Rattle.tablet.specs.Faces.{in32, stepFace};
 use answers::Answer;
 pub use steps::Step;
 pub use steps::Walk;
@@ -30,7 +32,7 @@ pub extern "C" fn ashkavorz_count(width: u32, low: u32, high: u32) -> Answer
 
 #[no_mangle]
 pub extern "C" fn ashkavorz_list(width: u32, low: u32, high: u32, out: &mut [u16]) -> Answer
-    ensures { λ r. ⌜ Lists width low high (now (out .entry)) r (now (out .exit)) ⌝ }
+    ensures { λ r. ⌜ Listing width low high (now (out .entry)) r (now (out .exit)) ⌝ }
 {
     convert::listed(intervals::list(width, low, high, out))
 }
@@ -51,7 +53,7 @@ pub extern "C" fn ashkavorz_check(width: u32, low: u32, high: u32, list: &[u16],
 
 #[no_mangle]
 pub extern "C" fn ashkavorz_compile(rules: &[u8], table: &mut [u8]) -> Answer
-    ensures { λ r. ⌜ Compiles (now (rules .entry)) (now (table .entry)) r (now (table .exit)) ⌝ }
+    ensures { λ r. ⌜ Compiling (now (rules .entry)) (now (table .entry)) r (now (table .exit)) ⌝ }
 {
     convert::compiled(tables::compile(rules, table))
 }
@@ -72,7 +74,7 @@ pub extern "C" fn ashkavorz_find_word(table: &[u8], k: usize, header: &[u8]) -> 
 
 #[no_mangle]
 pub extern "C" fn ashkavorz_read_sheet(text: &[u8], rules: &mut [u8]) -> Answer
-    ensures { λ r. ⌜ ReadsSheet (now (text .entry)) (now (rules .entry)) r (now (rules .exit)) ⌝ }
+    ensures { λ r. ⌜ Reading (now (text .entry)) (now (rules .entry)) r (now (rules .exit)) ⌝ }
 {
     convert::sheet(sheets::read(text, rules))
 }
