@@ -1,11 +1,11 @@
 -- Any two outcomes that a contract allows for one input coincide: the answer, and the lent memory where there is any.
 -- Each answer can be read back from document 01's number and values, so equal numbers mean equal answers. Assumes nothing.
 use mathlib.Core.List.{List}
-use mathlib.Core.Path.{_≡_, refl, sym, _∙_}
+use mathlib.Core.Path.{_≡_, refl}
 use Prim.Native.Nat.{ℕ}
 use lib.Dec.{eqb}
 use lib.IntN.{ℤ}
-use lib.ListN.{length}
+use Rattle.answers.proofs.Lending.{one-back}
 use Rattle.answers.proofs.ReadBack.{back}
 use Rattle.answers.specs.Refusals as refusal
 use Rattle.answers.specs.declared.Answer.{Answer}
@@ -13,7 +13,7 @@ use Rattle.bits.specs.Choice.{if_then_else_}
 use Rattle.blocks.specs.declared.Word.{Word}
 use Rattle.intervals.specs.Bounds.{closedAs, closing}
 use Rattle.intervals.specs.Checks.{checkedAs, checking}
-use Rattle.intervals.specs.Lists.{Listing, countedAs, counting, listedAs, listing}
+use Rattle.intervals.specs.Lists.{Listing, countedAs, counting, listedAs}
 use Rattle.intervals.specs.Walks.{Stepped, steppedAs, steppedBy, stepping}
 use Rattle.intervals.specs.declared.bounds.Closed.{Closed}
 use Rattle.intervals.specs.declared.bounds.Closed.the-variants as closed
@@ -112,8 +112,7 @@ one-count n low high = back countedAs countedFrom counted-back (counting n low h
 
 pub one-list : (n low high : ℕ) (before : List ℕ) (r s : Listed) (x y : List ℕ)
     → Listing n low high before (listedAs r) x → Listing n low high before (listedAs s) y → (r ≡ s) × (x ≡ y)
-one-list n low high before r s x y p q =
-    (back listedAs listedFrom listed-back (listing n low high (length before)) r s (p .says) (q .says), p .leaves ∙ sym (q .leaves))
+one-list n low high before = one-back listedAs listedFrom listed-back
 
 pub one-step : (w : Walk) (r s : Step) → steppedAs r ≡ stepping w → steppedAs s ≡ stepping w → r ≡ s
 one-step w = back steppedAs stepFrom (λ (s : Step). step-back (s .gave) (s .word) (s .walk)) (stepping w)

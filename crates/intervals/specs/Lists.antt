@@ -1,11 +1,11 @@
 -- Counting and listing: what is answered, and what a lent list of numbers holds afterwards (document 01, "Count" and the
 -- paragraph on lists: value then mask, k words take 2k numbers, and later numbers stay as they were).
-use mathlib.Core.List.{List, [], _∷_, _++_}
-use mathlib.Core.Path.{_≡_}
+use mathlib.Core.List.{List, [], _∷_}
 use Prim.Native.Nat.{ℕ, _*_}
-use lib.Dec.{eqb, ltb}
-use lib.ListN.{drop, length}
+use lib.Dec.{ltb}
+use lib.ListN.{length}
 use Rattle.answers.specs.Answers.{done, refused}
+use Rattle.answers.specs.Lent.{Lent}
 use Rattle.answers.specs.Refusals as refusal
 use Rattle.answers.specs.declared.Answer.{Answer}
 use Rattle.bits.specs.Choice.{if_then_else_}
@@ -45,13 +45,6 @@ numbers (w ∷ ws) = w .value ∷ w .mask ∷ numbers ws
 abbrev pub numbersOf : ℕ → ℕ → ℕ → List ℕ
 numbersOf n low high = numbers (wordsOf n low high)
 
--- what the list holds afterwards: the words and then what stood behind them, or what it held where the call is refused
-unfoldable pub listLeft : ℕ → ℕ → ℕ → List ℕ → List ℕ
-listLeft n low high before =
-    let ws = numbersOf n low high in
-    if eqb (listing n low high (length before) .no) 0 then ws ++ drop (length ws) before else before
-
--- the promise of `list`: what is answered, and what the lent list holds afterwards
-pub record Listing (n low high : ℕ) (before : List ℕ) (r : Answer) (after : List ℕ) : Type 0 where
-  pub says : r ≡ listing n low high (length before)
-  pub leaves : after ≡ listLeft n low high before
+-- the promise of `list`: what is answered, and the words at the start of the list lent
+abbrev pub Listing : ℕ → ℕ → ℕ → List ℕ → Answer → List ℕ → Type 0
+Listing n low high before = Lent (listing n low high (length before)) (numbersOf n low high) before

@@ -1,9 +1,9 @@
 // Counting and listing an interval's prefix words (document 01, "Count" and "Intervals and words").
-ghost use mathlib.Core.List.{_++_};
 ghost use mathlib.Core.Path.{_≡_};
 ghost use Prim.Native.Nat.{_≤_};
-ghost use lib.ListN.{drop, length};
+ghost use lib.ListN.{length};
 ghost use Rattle.blocks.specs.Blocks.{Closed};
+ghost use Rattle.fields.specs.Writes.{writeAt};
 ghost use Rattle.intervals.specs.Lists.{Listing, countedAs, counting, listedAs, numbersOf};
 use crate::ends::Fault;
 use crate::ends::Tested;
@@ -34,7 +34,7 @@ pub enum Listed {
 fn fill(n: u32, low: u32, high: u32, out: &mut [u16])
     requires { ⌜ Closed n low high ⌝ }
     requires { ⌜ length (numbersOf n low high) ≤ length (now out) ⌝ }
-    ensures { λ _. ⌜ now (out .exit) ≡ numbersOf n low high ++ drop (length (numbersOf n low high)) (now (out .entry)) ⌝ }
+    ensures { λ _. ⌜ now (out .exit) ≡ writeAt (now (out .entry)) 0 (numbersOf n low high) ⌝ }
 {
     let end = high + 1;
     let mut next = low;

@@ -1,10 +1,10 @@
 -- Any two outcomes that `read` allows for one input coincide, in the answer and in the lent memory: each answer can be read
 -- back from its number and values, so equal numbers mean equal answers. Assumes nothing.
 use mathlib.Core.List.{List}
-use mathlib.Core.Path.{_≡_, refl, sym, _∙_}
+use mathlib.Core.Path.{_≡_, refl}
 use Prim.Native.Nat.{ℕ}
 use lib.Dec.{eqb}
-use Rattle.answers.proofs.ReadBack.{back}
+use Rattle.answers.proofs.Lending.{one-back}
 use Rattle.answers.specs.Refusals as refusal
 use Rattle.answers.specs.declared.Answer.{Answer}
 use Rattle.bits.specs.Choice.{if_then_else_}
@@ -29,5 +29,4 @@ read-back (sheet.Room bytes) = refl
 read-back (sheet.Rules n) = refl
 
 pub one-read : (s held : List ℕ) (r u : Sheet) (x y : List ℕ) → Reading s held (readAs r) x → Reading s held (readAs u) y → (r ≡ u) × (x ≡ y)
-one-read s held r u x y p q =
-    (back readAs readFrom read-back (readAs u) r u (p .says ∙ sym (q .says)) refl, p .leaves ∙ sym (q .leaves))
+one-read s held = one-back readAs readFrom read-back

@@ -6,6 +6,7 @@ use Prim.Native.Nat.{ℕ, zero, suc, _+_, _*_}
 use lib.Dec.{eqb, ltb}
 use lib.ListN.{length}
 use Rattle.answers.specs.Answers.{done, refused}
+use Rattle.answers.specs.Lent.{Lent}
 use Rattle.answers.specs.Refusals as refusal
 use Rattle.answers.specs.declared.Answer.{Answer}
 use Rattle.bits.specs.Choice.{if_then_else_}
@@ -89,12 +90,6 @@ reading s bytes =
     else if many? s then refused refusal.many 0 0
     else behindRows (rowsOf ruleLimit 0 s) bytes
 
--- what the lent memory holds afterwards: the rules and then what stood behind them, or what it held where the call is refused
-unfoldable pub rulesLeft : List ℕ → List ℕ → List ℕ
-rulesLeft s held =
-    if eqb (reading s (length held) .no) 0 then writeAt held 0 (listBytes (rulesRead ruleLimit s)) else held
-
--- the promise of `read`
-pub record Reading (s held : List ℕ) (r : Answer) (left : List ℕ) : Type 0 where
-  pub says : r ≡ reading s (length held)
-  pub leaves : left ≡ rulesLeft s held
+-- the promise of `read`: what is answered, and the rules at the start of the memory lent
+abbrev pub Reading : List ℕ → List ℕ → Answer → List ℕ → Type 0
+Reading s lent = Lent (reading s (length lent)) (listBytes (rulesRead ruleLimit s)) lent

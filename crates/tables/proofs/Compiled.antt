@@ -11,6 +11,7 @@ use lib.Dec.{eqb, ltb}
 use lib.ListN.{drop, length}
 use lib.Seq.{getD-drop}
 use borrow.Author.Tests.{eqb-false, eqb-true, le-ltb, lt-ltb}
+use Rattle.answers.proofs.Lending.{left-done}
 use Rattle.answers.specs.Answers.{done, refused}
 use Rattle.answers.specs.Refusals as refusal
 use Rattle.answers.specs.declared.Answer.{Answer}
@@ -33,7 +34,7 @@ use Rattle.rules.specs.Finding as rule
 use Rattle.rules.specs.declared.faults.ListTest.{ListTest}
 use Rattle.rules.specs.declared.faults.ListTest.the-variants.{Good, Refused}
 use Rattle.rules.specs.declared.finding.Found as rule-answer
-use Rattle.tables.specs.Compiling.{Compiling, Taken, compiledAs, compiling, tableLeft}
+use Rattle.tables.specs.Compiling.{Compiling, Taken, compiledAs, compiling}
 use Rattle.tables.specs.Looking.{firstIll, firstRecord, foundAs, looking, lookingFormed}
 use Rattle.tables.specs.Meaning.{AllSound, forget}
 use Rattle.tables.specs.declared.compiling.Compiled.the-variants.{Words}
@@ -109,8 +110,8 @@ module _ (l before : List ℕ) (bl : Bytes l) (r : Answer) (t : List ℕ) (c : C
   rest = drop (0 + length (tableBytes entries)) before
 
   written : t ≡ tableBytes entries ++ rest
-  unfolding tableLeft writeAt entries rest
-  written = c .leaves ∙ simp (taken l (length before) (holds .good) (holds .room))
+  unfolding writeAt entries rest
+  written = c .leaves ∙ left-done (compiling l (length before)) (tableBytes (entriesOf 0 (allRules l))) before (sym (ap (λ (a : Answer). a .no) (c .says)) ∙ ok)
 
   same-length : length t ≡ length before
   unfolding writeAt rest

@@ -1,17 +1,17 @@
 -- Any two outcomes that a contract allows for one input coincide: each answer can be read back from document 01's number and
 -- values, so equal numbers mean equal answers. Assumes nothing.
 use mathlib.Core.List.{List}
-use mathlib.Core.Path.{_≡_, refl, sym, ap, _∙_}
+use mathlib.Core.Path.{_≡_, refl, ap}
 use Prim.Native.Nat.{ℕ}
 use lib.Dec.{eqb}
-use lib.ListN.{length}
+use Rattle.answers.proofs.Lending.{one-back}
 use Rattle.answers.proofs.ReadBack.{back}
 use Rattle.answers.specs.Refusals as refusal
 use Rattle.answers.specs.declared.Answer.{Answer}
 use Rattle.bits.specs.Choice.{if_then_else_}
 use Rattle.rules.proofs.Settled.{fault-back, listFaultFrom}
 use Rattle.rules.specs.declared.faults.ListFault.the-variants.{Odd, Many, Bad}
-use Rattle.tables.specs.Compiling.{Compiling, compiledAs, compiling}
+use Rattle.tables.specs.Compiling.{Compiling, compiledAs}
 use Rattle.tables.specs.Looking.{foundAs, looking}
 use Rattle.tables.specs.declared.compiling.Compiled.{Compiled}
 use Rattle.tables.specs.declared.compiling.Compiled.the-variants as compiled
@@ -56,5 +56,4 @@ one-word t k h = back foundAs foundFrom found-back (looking t k h)
 
 pub one-compile : (l before : List ℕ) (r s : Compiled) (x y : List ℕ)
     → Compiling l before (compiledAs r) x → Compiling l before (compiledAs s) y → (r ≡ s) × (x ≡ y)
-one-compile l before r s x y p q =
-    (back compiledAs compiledFrom compiled-back (compiling l (length before)) r s (p .says) (q .says), p .leaves ∙ sym (q .leaves))
+one-compile l before = one-back compiledAs compiledFrom compiled-back

@@ -2,14 +2,14 @@
 use mathlib.Core.List.{List}
 use mathlib.Core.Path.{_≡_}
 use Prim.Native.Nat.{ℕ, _≤_}
-use lib.Dec.{eqb, ltb}
+use lib.Dec.{ltb}
 use lib.ListN.{length}
 use Rattle.answers.specs.Answers.{done, refused}
+use Rattle.answers.specs.Lent.{Lent}
 use Rattle.answers.specs.Refusals as refusal
 use Rattle.answers.specs.declared.Answer.{Answer}
 use Rattle.bits.specs.Choice.{if_then_else_}
 use Rattle.entries.specs.Words.{entriesOf, needed}
-use Rattle.fields.specs.Writes.{writeAt}
 use Rattle.records.specs.Entries.{tableBytes}
 use Rattle.records.specs.Layout.{roomOf}
 use Rattle.records.specs.Rules.{allRules}
@@ -30,15 +30,9 @@ compiling l bytes =
     let k = needed (allRules l) in
     behindRules (testedRules l) (if ltb (roomOf bytes) k then refused refusal.space k 0 else done k 0 0 0)
 
--- what the table holds afterwards: the records and then what stood behind them, or what it held where the call is refused
-unfoldable pub tableLeft : List ℕ → List ℕ → List ℕ
-tableLeft l before =
-    if eqb (compiling l (length before) .no) 0 then writeAt before 0 (tableBytes (entriesOf 0 (allRules l))) else before
-
--- the promise of `compile`: what is answered, and what the lent table holds afterwards
-pub record Compiling (l before : List ℕ) (r : Answer) (after : List ℕ) : Type 0 where
-  pub says : r ≡ compiling l (length before)
-  pub leaves : after ≡ tableLeft l before
+-- the promise of `compile`: what is answered, and the records at the start of the table lent
+abbrev pub Compiling : List ℕ → List ℕ → Answer → List ℕ → Type 0
+Compiling l before = Lent (compiling l (length before)) (tableBytes (entriesOf 0 (allRules l))) before
 
 -- what a list has that was compiled into so many bytes: it is well formed, and there is room for its words
 pub record Taken (l : List ℕ) (bytes : ℕ) : Type 0 where

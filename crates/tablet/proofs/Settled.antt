@@ -5,6 +5,7 @@ use mathlib.Core.List.{List}
 use mathlib.Core.Path.{_≡_, sym, _∙_}
 use Prim.Native.Nat.{ℕ}
 use lib.IntN.{ℤ}
+use Rattle.answers.proofs.Lending.{one-lent}
 use Rattle.answers.specs.declared.Answer.{Answer}
 use Rattle.intervals.specs.Bounds.{closing}
 use Rattle.intervals.specs.Checks.{checking}
@@ -25,7 +26,7 @@ one-count n low high r s p q = p ∙ sym q
 
 pub one-list : (n low high : ℕ) (before : List ℕ) (r s : Answer) (x y : List ℕ)
     → Listing n low high before r x → Listing n low high before s y → (r ≡ s) × (x ≡ y)
-one-list n low high before r s x y p q = (p .says ∙ sym (q .says), p .leaves ∙ sym (q .leaves))
+one-list n low high before = one-lent
 
 pub one-step : (w : Walk) (r s : Step) → r ≡ stepFace w → s ≡ stepFace w → r ≡ s
 one-step w r s p q = p ∙ sym q
@@ -36,7 +37,7 @@ one-check n low high l k r s p q = p ∙ sym q
 
 pub one-compile : (l before : List ℕ) (r s : Answer) (x y : List ℕ)
     → Compiling l before r x → Compiling l before s y → (r ≡ s) × (x ≡ y)
-one-compile l before r s x y p q = (p .says ∙ sym (q .says), p .leaves ∙ sym (q .leaves))
+one-compile l before = one-lent
 
 pub one-rule : (l h : List ℕ) (r s : Answer) → r ≡ finding l h → s ≡ finding l h → r ≡ s
 one-rule l h r s p q = p ∙ sym q
@@ -46,4 +47,4 @@ one-word t k h r s p q = p ∙ sym q
 
 pub one-read : (t before : List ℕ) (r s : Answer) (x y : List ℕ)
     → Reading t before r x → Reading t before s y → (r ≡ s) × (x ≡ y)
-one-read t before r s x y p q = (p .says ∙ sym (q .says), p .leaves ∙ sym (q .leaves))
+one-read t before = one-lent
