@@ -1,6 +1,6 @@
 -- The cases that document 01 marks with *, as one list, and the single claim that they hold of the definitions themselves.
 -- They are entered as the document gives them: open bounds as open bounds, and lists number by number where it has them.
-use mathlib.Core.Bool.{Bool, true, false, _&&_}
+use mathlib.Core.Bool.{Bool, true, _&&_}
 use mathlib.Core.List.{List, [], _∷_}
 use mathlib.Core.Path.{_≡_, refl}
 use Prim.Native.Nat.{ℕ, _/_}
@@ -13,6 +13,7 @@ use Rattle.answers.specs.declared.Answer.{Answer}
 use Rattle.bits.specs.Digits.{topDiffer}
 use Rattle.blocks.specs.Blocks.{blocksOf, tiles}
 use Rattle.blocks.specs.Counting.{countOf}
+use Rattle.fields.specs.Same.{same?}
 use Rattle.intervals.specs.Bounds.{closing}
 use Rattle.intervals.specs.Ends.{behind, tested}
 use Rattle.intervals.specs.Lists.{counting, numbers, numbersOf}
@@ -51,14 +52,8 @@ starred =
     ∷ bounds-words 16 (pos 0) (pos 5590) 19
     ∷ []
 
-same : List ℕ → List ℕ → Bool
-same [] [] = true
-same [] (y ∷ ys) = false
-same (x ∷ xs) [] = false
-same (x ∷ xs) (y ∷ ys) = eqb x y && same xs ys
-
 is : Answer → Answer → Bool
-is r s = same (r .no ∷ r .a ∷ r .b ∷ r .c ∷ r .d ∷ []) (s .no ∷ s .a ∷ s .b ∷ s .c ∷ s .d ∷ [])
+is r s = same? (r .no ∷ r .a ∷ r .b ∷ r .c ∷ r .d ∷ []) (s .no ∷ s .a ∷ s .b ∷ s .c ∷ s .d ∷ [])
 
 -- counted by the formula and by the list
 has : ℕ → ℕ → ℕ → ℕ → Bool
@@ -66,7 +61,7 @@ has n low high k = is (counting n low high) (done k 0 0 0) && eqb (length (block
 
 -- these are the numbers, and they are counted: two to a word
 lists : ℕ → ℕ → ℕ → List ℕ → Bool
-lists n low high ns = same (numbersOf n low high) ns && has n low high (length ns / 2)
+lists n low high ns = same? (numbersOf n low high) ns && has n low high (length ns / 2)
 
 right : Case → Bool
 right (words n low high k) = has n low high k
@@ -81,5 +76,5 @@ every [] = true
 every (c ∷ cs) = right c && every cs
 
 pub starred-hold : every starred ≡ true
-unfolding every right starred same is has lists closing counting behind tested countOf topDiffer ones tiles numbers
+unfolding every right starred same? is has lists closing counting behind tested countOf topDiffer ones tiles numbers
 starred-hold = refl

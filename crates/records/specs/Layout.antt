@@ -31,3 +31,7 @@ wordLimit = 2048
 -- how many records a table of so many bytes has room for
 abbrev pub roomOf : ℕ → ℕ
 roomOf bytes = min (bytes / recordSize) wordLimit
+
+-- the last action: 0 permit, 1 deny, 2 permit and log, 3 deny and log
+abbrev pub lastAction : ℕ
+lastAction = 3

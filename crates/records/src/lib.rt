@@ -23,6 +23,8 @@ pub const RECORD_SIZE: usize = 28;
 pub const WORD_LIMIT: usize = 2048;
 // Bytes of the largest table.
 pub const TABLE_BYTES: usize = RECORD_SIZE * WORD_LIMIT;
+// The last action: permit, deny, permit and log, deny and log.
+pub const LAST_ACTION: u8 = 3;
 // Where a record's mask, rule number and action stand.
 pub const MASK_AT: usize = KEY_SIZE;
 

@@ -9,7 +9,7 @@ use Rattle.answers.specs.Answers.{refused}
 use Rattle.answers.specs.Refusals as refusal
 use Rattle.answers.specs.declared.Answer.{Answer}
 use Rattle.bits.specs.Choice.{if_then_else_}
-use Rattle.records.specs.Layout.{ruleLimit, ruleSize}
+use Rattle.records.specs.Layout.{lastAction, ruleLimit, ruleSize}
 use Rattle.records.specs.Rules.{allRules}
 use Rattle.records.specs.declared.Rule.{Rule}
 use Rattle.rules.specs.declared.faults.ListFault.{ListFault}
@@ -36,7 +36,7 @@ faults r =
     ∷ beyond? (r .dst) (r .dlen)
     ∷ ltb (r .shigh) (r .slow)
     ∷ ltb (r .dhigh) (r .dlow)
-    ∷ ltb 3 (r .action)
+    ∷ ltb lastAction (r .action)
     ∷ []
 
 -- the number of the first test that holds, the first of them having number i, or 0 where none does

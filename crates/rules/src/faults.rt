@@ -2,6 +2,7 @@
 ghost use mathlib.Core.Path.{_≡_};
 ghost use Prim.Native.Nat.{_≤_};
 ghost use Rattle.rules.specs.Faults.{badField, beyond?, spare?, testedRules};
+use records::LAST_ACTION;
 use records::RULE_LIMIT;
 use records::RULE_SIZE;
 use records::Rule;
@@ -66,7 +67,7 @@ fn bad_field(r: Rule) -> u8
     if r.dhigh < r.dlow {
         return 8;
     }
-    if 3 < r.action {
+    if LAST_ACTION < r.action {
         return 9;
     }
     0

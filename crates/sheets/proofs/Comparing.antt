@@ -9,7 +9,7 @@ use lib.Dec.{eqb}
 use lib.ListN.{length, drop, getD, drop-of-length-le}
 use lib.Seq.{drop-cons}
 use borrow.Author.Tests.{eq-eqb, ne-eqb}
-use Rattle.sheets.specs.Cuts.{same?}
+use Rattle.fields.specs.Same.{same?}
 
 -- the bytes before i agree
 pub record Comparing (s t : List ℕ) (i : ℕ) : Type 0 where

@@ -9,7 +9,8 @@ use lib.Dec.{eqb, leb}
 use borrow.Author.Tests.{eq-eqb, le-leb, leb-true, ne-eqb}
 use Rattle.bits.proofs.Orders.{le-or-lt}
 use Rattle.bits.specs.Choice.{if_then_else_}
-use Rattle.sheets.specs.Cuts.{after, before, same?, times}
+use Rattle.fields.specs.Same.{same?}
+use Rattle.sheets.specs.Cuts.{after, before, times}
 use Rattle.sheets.specs.Numbers.{none, numberAfter, numberOf}
 use Rattle.sheets.specs.Parts.{actionOf, any, badPorts, dash, noAction, paired, portsOf, protocolOf, star}
 use Rattle.sheets.specs.Text.{PortsSaid, portsText, protocolText}

@@ -10,7 +10,8 @@ use lib.Dec.{eqb}
 use borrow.Author.Tests.{eq-eqb, eqb-true, ne-eqb}
 use Rattle.bits.proofs.Orders.{le-or-lt}
 use Rattle.bits.specs.Choice.{if_then_else_}
-use Rattle.sheets.specs.Cuts.{after, before, same?, times}
+use Rattle.fields.specs.Same.{same?}
+use Rattle.sheets.specs.Cuts.{after, before, times}
 
 module _ (c : ℕ) where
   -- ---- how often it stands there

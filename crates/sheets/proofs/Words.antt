@@ -4,7 +4,7 @@ use mathlib.Core.List.{List}
 use mathlib.Core.Path.{_≡_}
 use Prim.Native.Nat.{ℕ, _≤_, _<_}
 use borrow.Author.Tests.{le-leb, lt-leb}
-use Rattle.sheets.specs.Cuts.{same?}
+use Rattle.fields.specs.Same.{same?}
 use Rattle.sheets.specs.Numbers.{none, numberOf}
 use Rattle.sheets.specs.Parts.{actionOf, any, noAction, protocolOf, star}
 use Rattle.texts.specs.Lines.{deny, denyLog, permit, permitLog}

@@ -6,6 +6,7 @@ use mathlib.Core.Path.{_≡_}
 use Prim.Native.Nat.{ℕ, _+_, _<_}
 use lib.Dec.{eqb, ltb}
 use lib.ListN.{length}
+use Rattle.records.specs.Layout.{lastAction}
 use Rattle.records.specs.declared.Rule.{Rule}
 use Rattle.sheets.specs.Cuts.{before, times}
 use Rattle.sheets.specs.Parts.{any}
@@ -42,7 +43,7 @@ pub record FirstBadLine (s : List ℕ) (rs : List Rule) (line field : ℕ) : Typ
 
 -- which of the six fields are bad
 abbrev pub badFields : ℕ → Address → Address → Ports → Ports → ℕ → List Bool
-badFields p src dst sports dports act = ltb any p ∷ not (src .good) ∷ not (dst .good) ∷ not (sports .good) ∷ not (dports .good) ∷ ltb 3 act ∷ []
+badFields p src dst sports dports act = ltb any p ∷ not (src .good) ∷ not (dst .good) ∷ not (sports .good) ∷ not (dports .good) ∷ ltb lastAction act ∷ []
 
 -- whether there are not six fields, and which of the six are bad
 abbrev pub badParts : List ℕ → List Bool

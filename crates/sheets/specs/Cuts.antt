@@ -1,5 +1,4 @@
 -- Text in parts: what stands before and after a mark.
-use mathlib.Core.Bool.{Bool, true, false, _&&_}
 use mathlib.Core.List.{List, [], _∷_}
 use mathlib.Core.Path.{_≡_}
 use Prim.Native.Nat.{ℕ, suc, _+_}
@@ -28,13 +27,6 @@ times c [] = 0
 times c (x ∷ s) =
     let rest = times c s in
     if eqb x c then suc rest else rest
-
--- the two texts are the same
-unfoldable pub same? : List ℕ → List ℕ → Bool
-same? [] [] = true
-same? [] (y ∷ t) = false
-same? (x ∷ s) [] = false
-same? (x ∷ s) (y ∷ t) = eqb x y && same? s t
 
 -- the places where the first part ends and the second begins
 pub record Cuts (c : ℕ) (s : List ℕ) (r : Places) : Type 0 where

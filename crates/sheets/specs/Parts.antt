@@ -5,8 +5,10 @@ use mathlib.Core.List.{List, [], _∷_}
 use Prim.Native.Nat.{ℕ, _+_, _*_}
 use lib.Dec.{leb}
 use Rattle.bits.specs.Choice.{if_then_else_}
+use Rattle.fields.specs.Same.{same?}
+use Rattle.records.specs.Layout.{lastAction}
 use Rattle.rules.specs.Faults.{beyond?}
-use Rattle.sheets.specs.Cuts.{after, before, same?}
+use Rattle.sheets.specs.Cuts.{after, before}
 use Rattle.sheets.specs.Numbers.{none, numberOf}
 use Rattle.sheets.specs.declared.parts.Address.{Address}
 use Rattle.sheets.specs.declared.parts.Ports.{Ports}
@@ -71,9 +73,9 @@ paired low high =
 unfoldable pub portsOf : List ℕ → Ports
 portsOf s = paired (numberOf (before dash s)) (numberOf (after dash s))
 
--- what is answered where there is no action: one more than the last, 3
+-- what is answered where there is no action
 abbrev pub noAction : ℕ
-noAction = 4
+noAction = lastAction + 1
 
 -- an action's number, or noAction
 unfoldable pub actionOf : List ℕ → ℕ

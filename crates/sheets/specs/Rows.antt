@@ -4,6 +4,7 @@ use mathlib.Core.List.{List}
 use Prim.Native.Nat.{ℕ, _/_, _%_}
 use lib.Dec.{eqb, ltb}
 use Rattle.bits.specs.Choice.{if_then_else_}
+use Rattle.records.specs.Layout.{lastAction}
 use Rattle.records.specs.declared.Rule.{Rule}
 use Rattle.sheets.specs.Cuts.{after, before, times}
 use Rattle.sheets.specs.Parts.{actionOf, addressOf, any, portsOf, protocolOf}
@@ -38,7 +39,7 @@ rowFrom p src dst sports dports act =
     else if not (dst .good) then Bad 3
     else if not (sports .good) then Bad 4
     else if not (dports .good) then Bad 5
-    else if ltb 3 act then Bad 6
+    else if ltb lastAction act then Bad 6
     else Good (ruleOf p src dst sports dports act)
 
 -- what f makes of the six fields of a line

@@ -1,6 +1,7 @@
 // Text in parts: where a mark stands, and how often.
 ghost use mathlib.Core.Path.{_≡_};
-ghost use Rattle.sheets.specs.Cuts.{Cuts, same?, times};
+ghost use Rattle.fields.specs.Same.{same?};
+ghost use Rattle.sheets.specs.Cuts.{Cuts, times};
 
 // Where the part before a mark ends, and where the part after it begins.
 pub struct Places {

@@ -5,12 +5,13 @@ use crate::cuts::cut;
 use crate::cuts::same;
 use crate::numbers::NONE;
 use crate::numbers::number;
+use records::LAST_ACTION;
 
 // Any protocol, as a number above all protocols.
 pub const ANY: u32 = 256;
 
-// What is answered where there is no action: one more than the last, 3.
-const NO_ACTION: u8 = 4;
+// What is answered where there is no action.
+const NO_ACTION: u8 = LAST_ACTION + 1;
 
 const DOT: u8 = 46;
 

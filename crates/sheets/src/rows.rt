@@ -10,6 +10,7 @@ use crate::parts::read_action;
 use crate::parts::read_address;
 use crate::parts::read_ports;
 use crate::parts::read_protocol;
+use records::LAST_ACTION;
 use records::Rule;
 
 const TAB: u8 = 9;
@@ -45,7 +46,7 @@ fn row_from(p: u32, src: Address, dst: Address, sports: Ports, dports: Ports, ac
     if !dports.good {
         return Row::Bad(5);
     }
-    if 3 < act {
+    if LAST_ACTION < act {
         return Row::Bad(6);
     }
     // Divided by ANY, a protocol gives 0 and leaves itself, and ANY gives 1 and leaves 0: the flag, and the protocol under it.

@@ -12,7 +12,7 @@ use Rattle.answers.specs.declared.Lowest.{Lowest}
 use Rattle.answers.specs.declared.Lowest.the-variants.{None, At}
 use Rattle.bits.specs.Choice.{if_then_else_}
 use Rattle.records.specs.Entries.{actionOf, maskOfRecord, numberOf, valueOf}
-use Rattle.records.specs.Layout.{keySize, recordSize, roomOf, wordLimit}
+use Rattle.records.specs.Layout.{keySize, lastAction, recordSize, roomOf, wordLimit}
 use Rattle.tables.specs.declared.finding.Found.{Found}
 use Rattle.tables.specs.declared.finding.Found.the-variants as found
 
@@ -38,7 +38,7 @@ recordMatches? t h = bytesMatch (valueOf t) (maskOfRecord t) h
 -- The record at the start of t is well formed: no value bit stands where the mask is 0, that is, under the mask the value is
 -- itself; and the action is at most 3.
 abbrev pub recordFormed? : List ℕ → Bool
-recordFormed? t = recordMatches? t (valueOf t) && leb (actionOf t) 3
+recordFormed? t = recordMatches? t (valueOf t) && leb (actionOf t) lastAction
 
 -- the lowest index of an ill-formed record among the k from the start of t on, the first having index j
 unfoldable pub firstIll : ℕ → ℕ → List ℕ → Lowest

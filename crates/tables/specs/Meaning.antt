@@ -9,6 +9,7 @@ use Rattle.answers.specs.declared.Answer.{Answer}
 use Rattle.blocks.specs.Tests.{matches?}
 use Rattle.blocks.specs.Words.{word}
 use Rattle.records.specs.Entries.{Entry}
+use Rattle.records.specs.Layout.{lastAction}
 use Rattle.records.specs.Rules.{RuleFits}
 use Rattle.records.specs.declared.Key.{Key}
 use Rattle.records.specs.declared.Rule.{Rule}
@@ -20,7 +21,7 @@ pub record Sound (r : Rule) : Type 0 where
   pub fits : RuleFits r
   pub src : r .src % 2 ^ (32 - r .slen) ≡ 0
   pub dst : r .dst % 2 ^ (32 - r .dlen) ≡ 0
-  pub action : r .action ≤ 3
+  pub action : r .action ≤ lastAction
 
 abbrev pub AllSound : List Rule → Type 0
 AllSound [] = Unit {0}

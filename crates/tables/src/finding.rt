@@ -11,6 +11,7 @@ use crate::compiling::room;
 use answers::Lowest;
 use records::ACTION_AT;
 use records::KEY_SIZE;
+use records::LAST_ACTION;
 use records::MASK_AT;
 use records::NUMBER_AT;
 use records::RECORD_SIZE;
@@ -56,7 +57,7 @@ fn formed_record(t: &[u8]) -> bool
     ensures { λ r. ⌜ r ≡ recordFormed? (now (t .entry)) ⌝ }
 {
     if matches_record(t, &t[..KEY_SIZE]) {
-        return t[ACTION_AT] <= 3;
+        return t[ACTION_AT] <= LAST_ACTION;
     }
     false
 }
