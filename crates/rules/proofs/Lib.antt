@@ -2,6 +2,7 @@ pub mod Powers
 pub mod Testing
 pub mod Matching
 pub mod Goods
+pub mod Going
 pub mod Turning
 pub mod Answering
 pub mod Lowest

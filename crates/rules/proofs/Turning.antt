@@ -5,11 +5,11 @@ use mathlib.Core.List.{List, [], _∷_}
 use mathlib.Core.Path.{_≡_, sym, ap, _∙_}
 use Prim.Native.Nat.{ℕ, _+_, _-_, _*_, _/_, _%_, _≤_, _<_}
 use native.Mathlib.Omega.{arith}
-use lib.ListN.{length, take, drop}
+use lib.ListN.{length}
 use borrow.Author.Tests.{eq-eqb, ne-eqb}
 use Rattle.answers.specs.Answers.{done}
 use Rattle.records.specs.Layout.{ruleLimit, ruleSize}
-use Rattle.records.specs.Rules.{allRules, ruleAt}
+use Rattle.records.specs.Rules.{allRules}
 use Rattle.records.specs.declared.Key.{Key}
 use Rattle.records.specs.declared.Rule.{Rule}
 use Rattle.records.proofs.Reading.{rules-none, rules-start, rules-turn, rulesFrom}
@@ -17,16 +17,13 @@ use Rattle.rules.specs.Faults.{badField, firstBad, testedRules}
 use Rattle.rules.specs.Meaning.{firstRule, ruleMatch}
 use Rattle.rules.specs.declared.faults.ListFault.the-variants.{Bad}
 use Rattle.rules.specs.declared.faults.ListTest.the-variants.{Good, Refused}
-use Rattle.rules.proofs.Goods.{fine, good-list, good-next}
+use Rattle.rules.proofs.Going.{Going, ReadAs, going-fine, going-more, going-start}
+use Rattle.rules.proofs.Goods.{good-list}
 use Rattle.rules.proofs.Testing.{tested-each}
 
 -- of all the rules of l those from the i-th on, which stands at place at
 abbrev rest : List ℕ → ℕ → ℕ → List Rule
 rest l i at = rulesFrom l (length l / ruleSize) i at
-
--- the first of them was read as r
-abbrev ReadAs : List ℕ → ℕ → Rule → Type 0
-ReadAs l at r = r ≡ ruleAt (take (length l - at) (drop at l))
 
 rest-start : (l : List ℕ) → allRules l ≡ rest l 0 0
 rest-start l = sym (rules-start l (length l / ruleSize))
@@ -70,16 +67,12 @@ module _ (l : List ℕ) (i at : ℕ) (t : Tested l i at) where
 
 -- the search of a well-formed list has come to rule i, at place at: what is left is well formed and decides
 pub record Sought (l : List ℕ) (k : Key) (i at : ℕ) : Type 0 where
-  pub within : i ≤ length l / ruleSize
-  pub place : at ≡ ruleSize * i
-  pub good : firstBad i (rest l i at) ≡ Good
+  pub on : Going l (length l / ruleSize) i at
   pub left : firstRule 0 (allRules l) k ≡ firstRule i (rest l i at) k
 
 pub sought-start : (l : List ℕ) (k : Key) → testedRules l ≡ Good → Sought l k 0 0
 sought-start l k e = record {
-  within = omega arith;
-  place = omega arith;
-  good = sym (ap (firstBad 0) (rest-start l)) ∙ good-list l e .good;
+  on = going-start l (length l / ruleSize) (good-list l e .good);
   left = ap (λ (rs : List Rule). firstRule 0 rs k) (rest-start l);
 }
 
@@ -89,11 +82,8 @@ module _ (l : List ℕ) (k : Key) (i at : ℕ) (s : Sought l k i at) where
   sought-end h = sym (s .left ∙ ap (λ (rs : List Rule). firstRule i rs k) (rest-none l i at h))
 
   module _ (r : Rule) (more : i < length l / ruleSize) (read : ReadAs l at r) where
-    good-both : (badField r ≡ 0) × (firstBad (i + 1) (rest l (i + 1) (at + ruleSize)) ≡ Good)
-    good-both = good-next i r (rest l (i + 1) (at + ruleSize)) (sym (ap (firstBad i) (rest-turn l i at r more read)) ∙ s .good)
-
     pub sought-lengths : (r .slen ≤ 32) × (r .dlen ≤ 32)
-    sought-lengths = let f = fine r (good-both .0) in (f .slen, f .dlen)
+    sought-lengths = let f = going-fine l (length l / ruleSize) i at (s .on) more r read in (f .slen, f .dlen)
 
     pub sought-found : {b : Bool} → b ≡ ruleMatch r k → b ≡ true → done 1 i (r .action) 0 ≡ firstRule 0 (allRules l) k
     unfolding firstRule
@@ -102,8 +92,6 @@ module _ (l : List ℕ) (k : Key) (i at : ℕ) (s : Sought l k i at) where
     pub sought-turn : {b : Bool} → b ≡ ruleMatch r k → b ≡ false → Sought l k (i + 1) (at + ruleSize)
     unfolding firstRule
     sought-turn e h = record {
-      within = omega arith;
-      place = omega arith;
-      good = good-both .1;
+      on = going-more l (length l / ruleSize) i at (s .on) more r read;
       left = s .left ∙ ap (λ (rs : List Rule). firstRule i rs k) (rest-turn l i at r more read) ∙ rw (← e, h);
     }

@@ -1,6 +1,6 @@
 -- A turn of writing the records of all rules: what is left to be written completes the table. Assumes nothing.
-use mathlib.Core.List.{List, _∷_, _++_}
-use mathlib.Core.Path.{_≡_, sym, ap, _∙_, subst}
+use mathlib.Core.List.{List, _++_}
+use mathlib.Core.Path.{_≡_, ap, _∙_, subst}
 use Prim.Native.Nat.{ℕ, _+_, _-_, _*_, _≤_, _<_}
 use native.Mathlib.Omega.{arith}
 use lib.ListN.{drop, length, length-drop, length-take, take}
@@ -15,9 +15,9 @@ use Rattle.fields.specs.Writes.{writeAt}
 use Rattle.records.proofs.Reading.{rulesFrom, rules-none, rules-start, rules-turn}
 use Rattle.records.specs.Entries.{Entry, tableBytes}
 use Rattle.records.specs.Layout.{recordSize, ruleSize}
-use Rattle.records.specs.Rules.{ruleAt, rulesOf}
+use Rattle.records.specs.Rules.{rulesOf}
 use Rattle.records.specs.declared.Rule.{Rule}
-use Rattle.rules.proofs.Goods.{fine, good-next}
+use Rattle.rules.proofs.Going.{Going, ReadAs, going-fine, going-more, going-start}
 use Rattle.rules.specs.Faults.{firstBad}
 use Rattle.rules.specs.declared.faults.ListTest.the-variants.{Good}
 use Rattle.tables.proofs.Totals.{writable}
@@ -33,17 +33,13 @@ lent-room t at k h = simp (length-take, length-drop) (omega arith)
 
 -- the records of the first i rules are written; the i-th rule starts at from, and its records go to at
 pub record Filling (l : List ℕ) (n : ℕ) (before now : List ℕ) (i from at : ℕ) : Type 0 where
-  pub bound : i ≤ n
-  pub start : from ≡ ruleSize * i
-  pub good : firstBad i (rulesFrom l n i from) ≡ Good
+  pub on : Going l n i from
   pub left : Left before 0 (entriesOf 0 (rulesOf n l)) now at (entriesOf i (rulesFrom l n i from))
 
 module _ (l : List ℕ) (n : ℕ) (before : List ℕ) where
   pub filling-start : firstBad 0 (rulesOf n l) ≡ Good → recordSize * needed (rulesOf n l) ≤ length before → Filling l n before before 0 0 0
   filling-start g h = record {
-    bound = omega arith;
-    start = omega arith;
-    good = ap (firstBad 0) (rules-start l n) ∙ g;
+    on = going-start l n g;
     left = rw (rules-start l n) (left-start before 0 (entriesOf 0 (rulesOf n l)) (omega (arith, length-entries 0 (rulesOf n l))));
   }
 
@@ -51,20 +47,14 @@ module _ (l : List ℕ) (n : ℕ) (before : List ℕ) where
     pub filling-in : at ≤ length now
     filling-in = omega (arith, f .left .count, f .left .room, f .left .same)
 
-    module _ (h : i < n) (r : Rule) (e : r ≡ ruleAt (take (length l - from) (drop from l))) where
-      next : rulesFrom l n i from ≡ r ∷ rulesFrom l n (i + 1) (from + ruleSize)
-      next = rules-turn l n i from r h e
-
-      next-good : firstBad i (r ∷ rulesFrom l n (i + 1) (from + ruleSize)) ≡ Good
-      next-good = ap (firstBad i) (sym next) ∙ f .good
-
+    module _ (h : i < n) (r : Rule) (e : ReadAs l from r) where
       next-left : Left before 0 (entriesOf 0 (rulesOf n l)) now at (ruleEntries i r ++ entriesOf (i + 1) (rulesFrom l n (i + 1) (from + ruleSize)))
       next-left =
           subst (λ (es : List Entry). Left before 0 (entriesOf 0 (rulesOf n l)) now at es)
-          (ap (entriesOf i) next ∙ entries-cons i r (rulesFrom l n (i + 1) (from + ruleSize))) (f .left)
+          (ap (entriesOf i) (rules-turn l n i from r h e) ∙ entries-cons i r (rulesFrom l n (i + 1) (from + ruleSize))) (f .left)
 
       pub filling-fine : words.Good r
-      filling-fine = writable r (fine r (good-next i r (rulesFrom l n (i + 1) (from + ruleSize)) next-good .0))
+      filling-fine = writable r (going-fine l n i from (f .on) h r e)
 
       pub filling-room : at + recordSize * length (ruleEntries i r) ≤ length now
       filling-room =
@@ -76,9 +66,7 @@ module _ (l : List ℕ) (n : ℕ) (before : List ℕ) where
           let y = wrote-part now part at x (ruleEntries i r) filling-in w in
           let z : at + x ≡ at + recordSize * length (ruleEntries i r) = omega (arith, w .free) in
           record {
-            bound = omega arith;
-            start = omega (arith, f .start);
-            good = good-next i r (rulesFrom l n (i + 1) (from + ruleSize)) next-good .1;
+            on = going-more l n i from (f .on) h r e;
             left = left-more before 0 (entriesOf 0 (rulesOf n l)) now (putMid at (length now - at) now part) at (at + x) (ruleEntries i r)
                 (entriesOf (i + 1) (rulesFrom l n (i + 1) (from + ruleSize))) next-left y z;
           }

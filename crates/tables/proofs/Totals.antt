@@ -4,14 +4,14 @@ use mathlib.Core.Path.{_≡_, sym, ap, _∙_}
 use Prim.Native.Nat.{ℕ, _+_, _-_, _*_, _≤_, _<_}
 use native.Mathlib.Nat.{zero-add}
 use native.Mathlib.Omega.{arith}
-use lib.ListN.{drop, length, take}
 use Rattle.entries.specs.Words.{WordCount, needed}
 use Rattle.entries.specs.Words as words
 use Rattle.records.proofs.Reading.{rulesFrom, rules-none, rules-start, rules-turn}
 use Rattle.records.specs.Layout.{ruleSize}
-use Rattle.records.specs.Rules.{ruleAt, rulesOf}
+use Rattle.records.specs.Rules.{rulesOf}
 use Rattle.records.specs.declared.Rule.{Rule}
-use Rattle.rules.proofs.Goods.{Fine, fine, good-next}
+use Rattle.rules.proofs.Going.{Going, ReadAs, going-fine, going-more, going-start}
+use Rattle.rules.proofs.Goods.{Fine}
 use Rattle.rules.specs.Faults.{firstBad}
 use Rattle.rules.specs.declared.faults.ListTest.the-variants.{Good}
 
@@ -21,40 +21,27 @@ writable r f = record { slen = f .slen; dlen = f .dlen; source = f .source; dest
 
 -- k words of the first i rules are counted; the i-th rule starts at from
 pub record Totalling (l : List ℕ) (n i from k : ℕ) : Type 0 where
-  pub bound : i ≤ n
-  pub start : from ≡ ruleSize * i
-  pub good : firstBad i (rulesFrom l n i from) ≡ Good
+  pub on : Going l n i from
   pub sum : k + needed (rulesFrom l n i from) ≡ needed (rulesOf n l)
   pub small : k ≤ 900 * i
 
 module _ (l : List ℕ) (n : ℕ) where
   pub total-start : firstBad 0 (rulesOf n l) ≡ Good → Totalling l n 0 0 0
   total-start g = record {
-    bound = omega arith;
-    start = omega arith;
-    good = ap (firstBad 0) (rules-start l n) ∙ g;
+    on = going-start l n g;
     sum = zero-add (needed (rulesFrom l n 0 0)) ∙ ap needed (rules-start l n);
     small = omega arith;
   }
 
-  module _ (i from k : ℕ) (t : Totalling l n i from k) (h : i < n) (r : Rule) (e : r ≡ ruleAt (take (length l - from) (drop from l))) where
-    here : firstBad i (r ∷ rulesFrom l n (i + 1) (from + ruleSize)) ≡ Good
-    here = ap (firstBad i) (sym (rules-turn l n i from r h e)) ∙ t .good
-
+  module _ (i from k : ℕ) (t : Totalling l n i from k) (h : i < n) (r : Rule) (e : ReadAs l from r) where
     pub total-fine : words.Good r
-    total-fine = writable r (fine r (good-next i r (rulesFrom l n (i + 1) (from + ruleSize)) here .0))
+    total-fine = writable r (going-fine l n i from (t .on) h r e)
 
     pub total-more : (w : ℕ) → WordCount r w → Totalling l n (i + 1) (from + ruleSize) (k + w)
     unfolding needed
     total-more w c =
         let s : k + needed (r ∷ rulesFrom l n (i + 1) (from + ruleSize)) ≡ needed (rulesOf n l) = ap (λ (x : List Rule). k + needed x) (sym (rules-turn l n i from r h e)) ∙ t .sum in
-        record {
-          bound = omega arith;
-          start = omega (arith, t .start);
-          good = good-next i r (rulesFrom l n (i + 1) (from + ruleSize)) here .1;
-          sum = omega (arith, c .is);
-          small = omega (arith, t .small, c .small);
-        }
+        record { on = going-more l n i from (t .on) h r e; sum = omega (arith, c .is); small = omega (arith, t .small, c .small) }
 
   pub total-end : (i from k : ℕ) → Totalling l n i from k → n ≤ i → k ≡ needed (rulesOf n l)
   unfolding needed
