@@ -21,6 +21,7 @@ use Rattle.records.specs.declared.Rule.{Rule}
 unfoldable pub protoWord : Rule → Word
 protoWord r = if eqb (r .flag) 1 then word 0 0 else word (r .proto) 255
 
+-- all of a rule's protocol words: just that one
 unfoldable pub protoWords : Rule → List Word
 protoWords r = protoWord r ∷ []
 

@@ -60,13 +60,13 @@ row-text {r} g =
     (ports-without tab (r .dlow) (r .dhigh) (omega arith))
     (action-without tab (r .action) (omega arith))
     ∙ rw (
-      protocol-text (r .flag) (r .proto) (f .flag) (f .spare) (g .proto),
-      address-text (r .src) (r .slen) (g .src) (f .slen) (rw (eq-eqb (r .src % 2 ^ (32 - r .slen)) 0 (f .src))),
-      address-text (r .dst) (r .dlen) (g .dst) (f .dlen) (rw (eq-eqb (r .dst % 2 ^ (32 - r .dlen)) 0 (f .dst))),
-      ports-text (r .slow) (r .shigh) (f .source) (g .shigh),
-      ports-text (r .dlow) (r .dhigh) (f .dest) (g .dhigh),
+      protocol-text (r .flag) (r .proto) (f .flag) (f .spare) (g .fits .proto),
+      address-text (r .src) (r .slen) (g .fits .src) (f .slen) (rw (eq-eqb (r .src % 2 ^ (32 - r .slen)) 0 (f .src))),
+      address-text (r .dst) (r .dlen) (g .fits .dst) (f .dlen) (rw (eq-eqb (r .dst % 2 ^ (32 - r .dlen)) 0 (f .dst))),
+      ports-text (r .slow) (r .shigh) (f .source) (g .fits .shigh),
+      ports-text (r .dlow) (r .dhigh) (f .dest) (g .fits .dhigh),
       action-text (r .action) (f .action),
-      le-ltb any (r .flag * any + r .proto) (protocol-most (r .flag) (r .proto) (f .flag) (f .spare) (g .proto)),
+      le-ltb any (r .flag * any + r .proto) (protocol-most (r .flag) (r .proto) (f .flag) (f .spare) (g .fits .proto)),
       le-ltb 3 (r .action) (f .action),
       e,
       m,
@@ -132,13 +132,16 @@ module _ (p : ℕ) (src dst : Address) (sports dports : Ports) (act : ℕ) where
         fine = sym (none-bad r
             (past-dst r (past-src r (past-proto r (omega arith) (spare-none h)) (a .short) (a .within)) (b .short) (b .within))
             (c .order) (d .order) k);
-        proto = omega arith;
-        src = a .fits;
-        dst = b .fits;
-        slow = omega arith;
-        shigh = c .fits;
-        dlow = omega arith;
-        dhigh = d .fits;
+        fits = record {
+          proto = omega arith;
+          src = a .fits;
+          dst = b .fits;
+          slow = omega arith;
+          shigh = c .fits;
+          dlow = omega arith;
+          dhigh = d .fits;
+          action = omega arith;
+        };
       }
 
 module _ (s : List ℕ) where

@@ -21,12 +21,12 @@ pub rule-back : {r : Rule} → GoodRule r → (rest : List ℕ) → ruleAt (rule
 unfolding ruleAt ruleBytes
 rule-back {r} g rest =
     rw (
-      at4-be4 (r .src) (g .src),
-      at4-be4 (r .dst) (g .dst),
-      at2-be2 (r .slow) (g .slow),
-      at2-be2 (r .shigh) (g .shigh),
-      at2-be2 (r .dlow) (g .dlow),
-      at2-be2 (r .dhigh) (g .dhigh),
+      at4-be4 (r .src) (g .fits .src),
+      at4-be4 (r .dst) (g .fits .dst),
+      at2-be2 (r .slow) (g .fits .slow),
+      at2-be2 (r .shigh) (g .fits .shigh),
+      at2-be2 (r .dlow) (g .fits .dlow),
+      at2-be2 (r .dhigh) (g .fits .dhigh),
     )
 
 rules-of : (rs : List Rule) → AllGood rs → rulesOf (length rs) (listBytes rs) ≡ rs

@@ -21,6 +21,7 @@ numberAfter x (c ∷ s) =
     let rest = numberAfter y s in
     if digit? c && ltb y none then rest else none
 
+-- the number that a text says: none where it is empty, or begins with a 0 that is not alone
 unfoldable pub numberOf : List ℕ → ℕ
 numberOf [] = none
 numberOf (c ∷ s) = if eqb c 48 && not (eqb (length s) 0) then none else numberAfter 0 (c ∷ s)

@@ -38,6 +38,7 @@ protocolOf s =
     else if leb (numberOf s) 255 then numberOf s
     else none
 
+-- what is answered where there is no address, and below where there is no interval
 abbrev pub badAddress : Address
 badAddress = record { good = false; bits = 0; len = 0 }
 
@@ -65,6 +66,7 @@ addressOf s =
 abbrev pub badPorts : Ports
 badPorts = record { good = false; low = 0; high = 0 }
 
+-- two numbers as an interval of ports, where they are in order and in range
 unfoldable pub paired : ℕ → ℕ → Ports
 paired low high =
     if leb low high && leb high 65535 then record { good = true; low = low; high = high } else badPorts

@@ -41,6 +41,7 @@ many? s = ltb 0 (length (afterLines ruleLimit s))
 abbrev pub ended? : List ℕ → Bool
 ended? s = ltb (length (before lineFeed s)) (length s)
 
+-- line i is bad, or the rest decides
 abbrev pub rowThen : Row → ℕ → Rows → Rows
 rowThen (row.Good r) i rest = rest
 rowThen (row.Bad k) i rest = rows.Bad i k
@@ -54,6 +55,7 @@ rowsOf (suc f) i s =
     else if not (ended? s) then rows.Bad (i + 1) 0
     else rowThen (rowOf (before lineFeed s)) (i + 1) rest
 
+-- the rule of a good line and those after it
 abbrev pub ruleThen : Row → List Rule → List Rule
 ruleThen (row.Good r) rest = r ∷ rest
 ruleThen (row.Bad k) rest = []
@@ -84,6 +86,7 @@ behindRows (rows.Bad line field) bytes = refused refusal.line line field
 behindRows (rows.Good n) bytes =
     if ltb bytes (ruleSize * n) then refused refusal.room (ruleSize * n) 0 else done n 0 0 0
 
+-- the answer, tested in document 02's order: the length, the number of lines, the lines, and then the room
 unfoldable pub reading : List ℕ → ℕ → Answer
 reading s bytes =
     if ltb sheetLimit (length s) then refused refusal.long 0 0

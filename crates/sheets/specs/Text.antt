@@ -7,6 +7,7 @@ use lib.Dec.{eqb}
 use lib.ListN.{length}
 use Rattle.bits.specs.Choice.{if_then_else_}
 use Rattle.records.specs.Layout.{ruleLimit}
+use Rattle.records.specs.Rules.{RuleFits}
 use Rattle.records.specs.declared.Rule.{Rule}
 use Rattle.rules.specs.Faults.{badField, beyond?}
 use Rattle.sheets.specs.Parts.{dash, dot, slash, star}
@@ -16,6 +17,7 @@ use Rattle.sheets.specs.declared.parts.Ports.{Ports}
 use Rattle.texts.specs.Decimal.{decimal}
 use Rattle.texts.specs.Lines.{actionText, lineFeed, tab}
 
+-- * under flag 1, else the protocol's number
 abbrev pub protocolText : ℕ → ℕ → List ℕ
 protocolText flag proto = if eqb flag 1 then star else decimal proto
 
@@ -27,6 +29,7 @@ addressText a len =
     ∷ (decimal (a / 256 % 256) ++ (dot
     ∷ (decimal (a % 256) ++ (slash ∷ decimal len)))))))
 
+-- low-high
 abbrev pub portsText : ℕ → ℕ → List ℕ
 portsText low high = decimal low ++ (dash ∷ decimal high)
 
@@ -55,13 +58,7 @@ ruleText r =
 -- no field of the rule is bad, and each fits its bytes
 pub record GoodRule (r : Rule) : Type 0 where
   pub fine : badField r ≡ 0
-  pub proto : r .proto < 256
-  pub src : r .src < 2 ^ 32
-  pub dst : r .dst < 2 ^ 32
-  pub slow : r .slow < 65536
-  pub shigh : r .shigh < 65536
-  pub dlow : r .dlow < 65536
-  pub dhigh : r .dhigh < 65536
+  pub fits : RuleFits r
 
 -- one rule a line, each ended by a line feed
 unfoldable pub sheetText : List Rule → List ℕ
