@@ -12,6 +12,6 @@ abbrev pub refused : ℕ → ℕ → ℕ → Answer
 refused number a b = record { no = number; a = a; b = b; c = 0; d = 0 }
 
 -- what is answered where the lowest ill-formed word, if there is one, is refused first
-unfoldable pub behindIll : Lowest → Answer → Answer
-behindIll None a = a
-behindIll (At i) a = refused refusal.ill i 0
+unfoldable pub behind_ill : Lowest → Answer → Answer
+behind_ill None a = a
+behind_ill (At i) a = refused refusal.ill i 0

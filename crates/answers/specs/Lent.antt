@@ -2,13 +2,13 @@
 use Rattle.std.specs.Prelude.{List, ◌≡◌, ℕ, eqb}
 use Rattle.answers.specs.declared.Answer.{Answer}
 use Rattle.bits.specs.Choice.{if◌then◌else◌}
-use Rattle.fields.specs.Writes.{writeAt}
+use Rattle.fields.specs.Writes.{write_at}
 
 -- what the memory holds after an answer: what is written and then what stood behind it, or what it held where it is refused
-unfoldable pub leftBy : Answer → List ℕ → List ℕ → List ℕ
-leftBy answer written before = if eqb answer.no 0 then writeAt before 0 written else before
+unfoldable pub left_by : Answer → List ℕ → List ℕ → List ℕ
+left_by answer written before = if eqb answer.no 0 then write_at before 0 written else before
 
 -- the promise of a call that answers so and writes this: what comes back, and what the memory holds afterwards
 pub record Lent (answer : Answer) (written before : List ℕ) (r : Answer) (after : List ℕ) : Type 0 where
   pub says : r ≡ answer
-  pub leaves : after ≡ leftBy answer written before
+  pub leaves : after ≡ left_by answer written before

@@ -13,19 +13,19 @@ abbrev pub Zeros : ℕ → ℕ → ℕ → Type 0
 Zeros n x r = (r ≤ n) × (x % 2 ^ r ≡ 0) × (r < n → x % 2 ^ suc r ≡ 0 → ⊥)
 
 -- one digit more of a remainder: the lowest digit, and those of the half
-half-mod : (x t : ℕ) → x % 2 ^ suc t ≡ x / 2 % 2 ^ t * 2 + x % 2
-half-mod x t = ap (λ (y : ℕ). x % 2 ^ y) (sym (add-one t)) ∙ mod-pow-add x t 1
+half_mod : (x t : ℕ) → x % 2 ^ suc t ≡ x / 2 % 2 ^ t * 2 + x % 2
+half_mod x t = ap (λ (y : ℕ). x % 2 ^ y) (sym (add-one t)) ∙ mod-pow-add x t 1
 
-pub trailing-law : (n x : ℕ) → Zeros n x (count_trailing_zeros n x)
+pub trailing_law : (n x : ℕ) → Zeros n x (count_trailing_zeros n x)
 unfolding count_trailing_zeros
-trailing-law zero x = (omega arith, omega arith, λ (h : 0 < 0) (e : x % 2 ^ 1 ≡ 0). omega arith)
-trailing-law (suc n) x = go (x % 2) refl (count_trailing_zeros n (x / 2)) (trailing-law n (x / 2))
+trailing_law zero x = (omega arith, omega arith, λ (h : 0 < 0) (e : x % 2 ^ 1 ≡ 0). omega arith)
+trailing_law (suc n) x = go (x % 2) refl (count_trailing_zeros n (x / 2)) (trailing_law n (x / 2))
   where
     go : (d : ℕ) → x % 2 ≡ d → (t : ℕ) → Zeros n (x / 2) t → Zeros (suc n) x (under d t)
     go zero e t z = (
       omega (arith, z.0),
-      omega (arith, half-mod x t, z.1),
-      λ (h : suc t < suc n) (f : x % 2 ^ suc (suc t) ≡ 0). z.2 (omega arith) (omega (arith, half-mod x (suc t))),
+      omega (arith, half_mod x t, z.1),
+      λ (h : suc t < suc n) (f : x % 2 ^ suc (suc t) ≡ 0). z.2 (omega arith) (omega (arith, half_mod x (suc t))),
     )
     go (suc d) e t z = (omega arith, omega arith, λ (h : 0 < suc n) (f : x % 2 ^ 1 ≡ 0). omega arith)
 
@@ -35,11 +35,11 @@ trailing-law (suc n) x = go (x % 2) refl (count_trailing_zeros n (x / 2)) (trail
 abbrev pub Top : ℕ → ℕ → Type 0
 Top x r = (2 ^ r ≤ x) × (x < 2 ^ suc r)
 
-pub leading-most : (x : ℕ) → 0 < x → x < 2 ^ 32 → count_leading_zeros 32 x ≤ 31
-leading-most x h f = omega (arith, (leading_top 32 x h f).1)
+pub leading_most : (x : ℕ) → 0 < x → x < 2 ^ 32 → count_leading_zeros 32 x ≤ 31
+leading_most x h f = omega (arith, (leading_top 32 x h f).1)
 
-pub leading-law : (x : ℕ) → 0 < x → x < 2 ^ 32 → Top x (31 - count_leading_zeros 32 x)
-leading-law x h f =
+pub leading_law : (x : ℕ) → 0 < x → x < 2 ^ 32 → Top x (31 - count_leading_zeros 32 x)
+leading_law x h f =
     let t = leading_top 32 x h f in
     let e : t.0 ≡ 31 - count_leading_zeros 32 x = omega (arith, t.1) in
     subst (λ (r : ℕ). Top x r) e (t.2, t.3)

@@ -8,18 +8,18 @@ abbrev pub bit : ℕ → ℕ → ℕ
 bit i x = x / 2 ^ i % 2
 
 -- how many of the s lowest bits of x are 1
-abbrev pub onesBelow : ℕ → ℕ → ℕ
-onesBelow s x = ones (x % 2 ^ s)
+abbrev pub ones_below : ℕ → ℕ → ℕ
+ones_below s x = ones (x % 2 ^ s)
 
 -- how many of the s lowest bits of x are 0
-abbrev pub zerosBelow : ℕ → ℕ → ℕ
-zerosBelow s x = s - onesBelow s x
+abbrev pub zeros_below : ℕ → ℕ → ℕ
+zeros_below s x = s - ones_below s x
 
 -- The highest of the k lowest bits at which a and b differ. It is 0 where none does, which nobody asks: the count of words
 -- takes it of two numbers of which one is smaller.
-unfoldable pub topDiffer : ℕ → ℕ → ℕ → ℕ
-topDiffer zero a b = zero
-topDiffer (suc k) a b = if eqb (bit k a) (bit k b) then topDiffer k a b else k
+unfoldable pub top_differ : ℕ → ℕ → ℕ → ℕ
+top_differ zero a b = zero
+top_differ (suc k) a b = if eqb (bit k a) (bit k b) then top_differ k a b else k
 
 -- s is the highest bit at which a and b differ
 pub record Differ (a b s : ℕ) : Type 0 where
@@ -33,5 +33,5 @@ pub record Apart (a b s : ℕ) : Type 0 where
 
 -- r is the number of ones of x below bit s
 pub record Ones (s x r : ℕ) : Type 0 where
-  pub is : r ≡ onesBelow s x
+  pub is : r ≡ ones_below s x
   pub most : r ≤ s

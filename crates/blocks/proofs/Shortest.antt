@@ -9,14 +9,14 @@ use native.Mathlib.Omega.{arith}
 use native.Mathlib.Nat.{one-mul, zero-mul}
 use lib.ListN.{length, length-append, length-map}
 use lib.Pow.{pow_pos}
-use Rattle.bits.proofs.Orders.{le-or-lt}
-use Rattle.blocks.specs.Blocks.{Block, Inside, block, blocksOf, prefix_of, tiles}
+use Rattle.bits.proofs.Orders.{le_or_lt}
+use Rattle.blocks.specs.Blocks.{Block, Inside, block, blocks_of, prefix_of, tiles}
 use Rattle.blocks.specs.Words.{Exactly, Prefix, Some}
 use Rattle.blocks.specs.declared.Word.{Word}
-use Rattle.blocks.proofs.Held.{AllFit, Fits, Held, held-some, some-held}
-use Rattle.blocks.proofs.Matching.{prefix-block}
-use Rattle.blocks.proofs.Multiples.{finer, floor-high}
-use Rattle.blocks.proofs.Tiles.{inside-dec, whole, single, split, half-start, half-mid}
+use Rattle.blocks.proofs.Held.{AllFit, Fits, Held, held_some, some_held}
+use Rattle.blocks.proofs.Matching.{prefix_block}
+use Rattle.blocks.proofs.Multiples.{finer, floor_high}
+use Rattle.blocks.proofs.Tiles.{inside_dec, whole, single, split, half_start, half_mid}
 
 -- an aligned block within the block of k free bits from v on
 record Within (k v : ℕ) (b : Block) : Type 0 where
@@ -48,7 +48,7 @@ parts m [] = record {
   above = λ (b : Block) (h : Memᴰ b []). absurd (Memᴰ.not-nil h);
   either = λ (b : Block) (h : Memᴰ b []). inl h;
 }
-parts m (c ∷ cs) = go (le-or-lt m c.from) (parts m cs)
+parts m (c ∷ cs) = go (le_or_lt m c.from) (parts m cs)
   where
     go : (m ≤ c.from) ⊎ (c.from < m) → Parts m cs → Parts m (c ∷ cs)
     go (inl h) p = record {
@@ -76,7 +76,7 @@ parts m (c ∷ cs) = go (le-or-lt m c.from) (parts m cs)
 
 module _ (k v q low end : ℕ) (ev : v ≡ q * 2 ^ suc k) (out : Inside low end v (suc k) → ⊥) (b : Block) (w : Within (suc k) v b) (i : Inside low end b.from b.free) where
   deeper : b.free ≤ k
-  deeper = go (le-or-lt b.free k)
+  deeper = go (le_or_lt b.free k)
     where
       go : (b.free ≤ k) ⊎ (k < b.free) → b.free ≤ k
       go (inl l) = l
@@ -91,8 +91,8 @@ module _ (k v q low end : ℕ) (ev : v ≡ q * 2 ^ suc k) (out : Inside low end 
   low_half h =
       let m = 2 ^ b.free in
       let c = (q * 2 + 1) * 2 ^ (k - b.free) in
-      let e : v + 2 ^ k ≡ c * m = ap (λ (y : ℕ). y + 2 ^ k) ev ∙ half-mid q k ∙ finer (q * 2 + 1) k b.free deeper in
-      let hi : b.from - b.from % m + m ≤ v + 2 ^ k = rw e (floor-high c m b.from (rw e at h)) in
+      let e : v + 2 ^ k ≡ c * m = ap (λ (y : ℕ). y + 2 ^ k) ev ∙ half_mid q k ∙ finer (q * 2 + 1) k b.free deeper in
+      let hi : b.from - b.from % m + m ≤ v + 2 ^ k = rw e (floor_high c m b.from (rw e at h)) in
       record { depth = deeper; aligned = w.aligned; start = w.start; stop = omega (arith, w.aligned) }
 
   high_half : v + 2 ^ k ≤ b.from → Within k (v + 2 ^ k) b
@@ -108,18 +108,18 @@ record Covers (k v low end : ℕ) (bs : List Block) : Type 0 where
 
 one_block : (k v low end : ℕ) (bs : List Block) → Covers k v low end bs → Inside low end v k → length (tiles k v low end) ≤ length bs
 one_block k v low end bs c i =
-    rw (whole k v low end i) (some_block bs v (c.covers v (omega arith) (omega (arith, pow_pos k)) i.low-in (omega (arith, i.end-in, pow_pos k))))
+    rw (whole k v low end i) (some_block bs v (c.covers v (omega arith) (omega (arith, pow_pos k)) i.low_in (omega (arith, i.end_in, pow_pos k))))
 
 module _ (k v q low end : ℕ) (ev : v ≡ q * 2 ^ suc k) (out : Inside low end v (suc k) → ⊥) (bs : List Block) (c : Covers (suc k) v low end bs) (p : Parts (v + 2 ^ k) bs) where
-  in-low : (b : Block) → Memᴰ b p.lows → Within k v b
-  in-low b l = let m = (p.below b l).0 in low_half k v q low end ev out b (c.within b m) (c.inside b m) (p.below b l).1
+  in_low : (b : Block) → Memᴰ b p.lows → Within k v b
+  in_low b l = let m = (p.below b l).0 in low_half k v q low end ev out b (c.within b m) (c.inside b m) (p.below b l).1
 
-  in-high : (b : Block) → Memᴰ b p.highs → Within k (v + 2 ^ k) b
-  in-high b l = let m = (p.above b l).0 in high_half k v q low end ev out b (c.within b m) (c.inside b m) (p.above b l).1
+  in_high : (b : Block) → Memᴰ b p.highs → Within k (v + 2 ^ k) b
+  in_high b l = let m = (p.above b l).0 in high_half k v q low end ev out b (c.within b m) (c.inside b m) (p.above b l).1
 
   covers_low : Covers k v low end p.lows
   covers_low = record {
-    within = in-low;
+    within = in_low;
     inside = λ (b : Block) (l : Memᴰ b p.lows). c.inside b (p.below b l).0;
     covers = λ (x : ℕ) (s : v ≤ x) (t : x < v + 2 ^ k) (lo : low ≤ x) (hi : x < end). go x t (c.covers x s (omega arith) lo hi);
   }
@@ -132,7 +132,7 @@ module _ (k v q low end : ℕ) (ev : v ≡ q * 2 ^ suc k) (out : Inside low end 
 
   covers_high : Covers k (v + 2 ^ k) low end p.highs
   covers_high = record {
-    within = in-high;
+    within = in_high;
     inside = λ (b : Block) (l : Memᴰ b p.highs). c.inside b (p.above b l).0;
     covers = λ (x : ℕ) (s : v + 2 ^ k ≤ x) (t : x < v + 2 ^ k + 2 ^ k) (lo : low ≤ x) (hi : x < end). go x s (c.covers x (omega arith) (omega arith) lo hi);
   }
@@ -140,18 +140,18 @@ module _ (k v q low end : ℕ) (ev : v ≡ q * 2 ^ suc k) (out : Inside low end 
       go : (x : ℕ) → v + 2 ^ k ≤ x → Held bs x → Held p.highs x
       go x s h =
           let b = h.by in
-          ⊎_elim (λ (l : Memᴰ b p.lows). absurd (omega (arith, (in-low b l).stop, h.holds.stop)))
+          ⊎_elim (λ (l : Memᴰ b p.lows). absurd (omega (arith, (in_low b l).stop, h.holds.stop)))
           (λ (l : Memᴰ b p.highs). record { by = b; listed = l; holds = h.holds }) (p.either b h.listed)
 
 shortest : (k v q low end : ℕ) → v ≡ q * 2 ^ k → (bs : List Block) → Covers k v low end bs → length (tiles k v low end) ≤ length bs
-shortest zero v q low end e bs c = go (inside-dec low end v zero)
+shortest zero v q low end e bs c = go (inside_dec low end v zero)
   where
     go : Inside low end v zero ⊎ (Inside low end v zero → ⊥) → length (tiles zero v low end) ≤ length bs
     go (inl i) = one_block zero v low end bs c i
     go (inr i) = rw (single v low end i) (omega arith)
 shortest (suc k) v q low end e bs c =
-    go (inside-dec low end v (suc k)) (parts (v + 2 ^ k) bs) (shortest k v (q * 2) low end (e ∙ half-start q k))
-    (shortest k (v + 2 ^ k) (q * 2 + 1) low end (ap (λ (x : ℕ). x + 2 ^ k) e ∙ half-mid q k))
+    go (inside_dec low end v (suc k)) (parts (v + 2 ^ k) bs) (shortest k v (q * 2) low end (e ∙ half_start q k))
+    (shortest k (v + 2 ^ k) (q * 2 + 1) low end (ap (λ (x : ℕ). x + 2 ^ k) e ∙ half_mid q k))
   where
     go : Inside low end v (suc k) ⊎ (Inside low end v (suc k) → ⊥) → Parts (v + 2 ^ k) bs
         → ((cs : List Block) → Covers k v low end cs → length (tiles k v low end) ≤ length cs)
@@ -175,9 +175,9 @@ word_fits : (n : ℕ) (w : Word) → (p : Prefix n w) → Fits n (block w.value 
 word_fits n w p =
     let k = n - p.leading in
     let e : 2 ^ n ≡ 2 ^ (n - k) * 2 ^ k = sym (one-mul (2 ^ n)) ∙ finer 1 n k (omega arith) ∙ ap (λ (z : ℕ). z * 2 ^ k) (one-mul (2 ^ (n - k))) in
-    let a = (prefix-block n w p).1 in
-    let h : w.value < 2 ^ (n - k) * 2 ^ k = rw e at p.formed.value-fits in
-    record { wide = omega arith; aligned = a; ends = omega (arith, floor-high (2 ^ (n - k)) (2 ^ k) w.value h) }
+    let a = (prefix_block n w p).1 in
+    let h : w.value < 2 ^ (n - k) * 2 ^ k = rw e at p.formed.value_fits in
+    record { wide = omega arith; aligned = a; ends = omega (arith, floor_high (2 ^ (n - k)) (2 ^ k) w.value h) }
 
 blocked : (n : ℕ) (ws : List Word) → ((w : Word) → Memᴰ w ws → Prefix n w) → Blocked n ws
 blocked n [] p = record { blocks = []; fit = λ (b : Block) (m : Memᴰ b []). absurd (Memᴰ.not-nil m); words = refl }
@@ -188,13 +188,13 @@ blocked n (w ∷ ws) p =
     record {
       blocks = c ∷ r.blocks;
       fit = λ (b : Block) (m : Memᴰ b (c ∷ r.blocks)). ⊎_elim (λ (e : b ≡ c). rw e (word_fits n w q)) (r.fit b) (Memᴰ.cases_cons m);
-      words = ap₂ (λ (v : Word) (vs : List Word). v ∷ vs) (sym (prefix-block n w q).0) r.words;
+      words = ap₂ (λ (v : Word) (vs : List Word). v ∷ vs) (sym (prefix_block n w q).0) r.words;
     }
 
 -- No list of prefix words that matches exactly the interval is shorter than the list of largest blocks.
-pub none-shorter : (n low high : ℕ) (ws : List Word) → ((w : Word) → Memᴰ w ws → Prefix n w) → Exactly n low high ws
-    → length (blocksOf n low high) ≤ length ws
-none-shorter n low high ws p x =
+pub none_shorter : (n low high : ℕ) (ws : List Word) → ((w : Word) → Memᴰ w ws → Prefix n w) → Exactly n low high ws
+    → length (blocks_of n low high) ≤ length ws
+none_shorter n low high ws p x =
     let r = blocked n ws p in
     let bs = r.blocks in
     let covers : (y : ℕ) → low ≤ y → y ≤ high → Some (map (prefix_of n) bs) y = rw r.words x.covers in
@@ -208,9 +208,9 @@ none-shorter n low high ws p x =
           let f = r.fit b m in
           let s : 0 < 2 ^ b.free = pow_pos b.free in
           let y = b.from + 2 ^ b.free - 1 in
-          let first = only b.from (omega arith) (held-some n b.from bs r.fit b m (record { start = omega arith; stop = omega arith })) in
-          let last = only y (omega arith) (held-some n y bs r.fit b m (record { start = omega arith; stop = omega arith })) in
-          record { low-in = first.0; end-in = omega (arith, last.1) };
-      covers = λ (y : ℕ) (s : 0 ≤ y) (t : y < 0 + 2 ^ n) (lo : low ≤ y) (hi : y < high + 1). some-held n y bs r.fit (omega arith) (covers y lo (omega arith));
+          let first = only b.from (omega arith) (held_some n b.from bs r.fit b m (record { start = omega arith; stop = omega arith })) in
+          let last = only y (omega arith) (held_some n y bs r.fit b m (record { start = omega arith; stop = omega arith })) in
+          record { low_in = first.0; end_in = omega (arith, last.1) };
+      covers = λ (y : ℕ) (s : 0 ≤ y) (t : y < 0 + 2 ^ n) (lo : low ≤ y) (hi : y < high + 1). some_held n y bs r.fit (omega arith) (covers y lo (omega arith));
     }) in
     omega arith

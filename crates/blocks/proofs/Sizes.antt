@@ -4,14 +4,14 @@ use mathlib.Core.List.{List, [], ◌∷◌, ◌++◌}
 use mathlib.Core.Logic.{◌⊎◌, inl, inr}
 use Prim.Native.Nat.{ℕ, zero, suc, ◌+◌, ◌-◌, ◌^◌, ◌≤◌, ◌<◌, min}
 use native.Mathlib.Omega.{arith}
-use Rattle.bits.proofs.Orders.{le-or-lt}
+use Rattle.bits.proofs.Orders.{le_or_lt}
 use Rattle.blocks.specs.Blocks.{Block, tiles, sizes, Inside}
-use Rattle.blocks.proofs.Tiles.{inside-dec, whole, split, miss-low, miss-end}
+use Rattle.blocks.proofs.Tiles.{inside_dec, whole, split, miss_low, miss_end}
 
-sizes-append : (bs cs : List Block) → sizes (bs ++ cs) ≡ sizes bs + sizes cs
+sizes_append : (bs cs : List Block) → sizes (bs ++ cs) ≡ sizes bs + sizes cs
 unfolding sizes
-sizes-append [] cs = omega arith
-sizes-append (b ∷ bs) cs = omega (arith, sizes-append bs cs)
+sizes_append [] cs = omega arith
+sizes_append (b ∷ bs) cs = omega (arith, sizes_append bs cs)
 
 -- how many of the s values from v on are below t
 below : ℕ → ℕ → ℕ → ℕ
@@ -25,27 +25,27 @@ below_all : (v s t : ℕ) → v + s ≤ t → below v s t ≡ s
 unfolding below
 below_all v s t h = omega arith
 
-below-halves : (k v t : ℕ) → below v (2 ^ suc k) t ≡ below v (2 ^ k) t + below (v + 2 ^ k) (2 ^ k) t
+below_halves : (k v t : ℕ) → below v (2 ^ suc k) t ≡ below v (2 ^ k) t + below (v + 2 ^ k) (2 ^ k) t
 unfolding below
-below-halves k v t = omega arith
+below_halves k v t = omega arith
 
 -- the blocks of the block of k free bits from v on have the values of it that are below end and not below low
-sizes-between : (k v low end : ℕ) → low ≤ end → below v (2 ^ k) low + sizes (tiles k v low end) ≡ below v (2 ^ k) end
+sizes_between : (k v low end : ℕ) → low ≤ end → below v (2 ^ k) low + sizes (tiles k v low end) ≡ below v (2 ^ k) end
 unfolding sizes
-sizes-between zero v low end o = go (le-or-lt low v) (le-or-lt (v + 1) end)
+sizes_between zero v low end o = go (le_or_lt low v) (le_or_lt (v + 1) end)
   where
     go : (low ≤ v) ⊎ (v < low) → (v + 1 ≤ end) ⊎ (end < v + 1) → below v 1 low + sizes (tiles zero v low end) ≡ below v 1 end
-    go (inl p) (inl h) = rw (whole zero v low end (record { low-in = p; end-in = h })) (omega (arith, below_none v 1 low p, below_all v 1 end h))
-    go (inl p) (inr h) = rw (miss-end zero v low end (omega arith)) (omega (arith, below_none v 1 low p, below_none v 1 end (omega arith)))
-    go (inr p) _ = rw (miss-low zero v low end (omega arith)) (omega (arith, below_all v 1 low (omega arith), below_all v 1 end (omega arith)))
-sizes-between (suc k) v low end o = go (inside-dec low end v (suc k)) (sizes-between k v low end o) (sizes-between k (v + 2 ^ k) low end o)
+    go (inl p) (inl h) = rw (whole zero v low end (record { low_in = p; end_in = h })) (omega (arith, below_none v 1 low p, below_all v 1 end h))
+    go (inl p) (inr h) = rw (miss_end zero v low end (omega arith)) (omega (arith, below_none v 1 low p, below_none v 1 end (omega arith)))
+    go (inr p) _ = rw (miss_low zero v low end (omega arith)) (omega (arith, below_all v 1 low (omega arith), below_all v 1 end (omega arith)))
+sizes_between (suc k) v low end o = go (inside_dec low end v (suc k)) (sizes_between k v low end o) (sizes_between k (v + 2 ^ k) low end o)
   where
     go : Inside low end v (suc k) ⊎ (Inside low end v (suc k) → ⊥) → below v (2 ^ k) low + sizes (tiles k v low end) ≡ below v (2 ^ k) end
         → below (v + 2 ^ k) (2 ^ k) low + sizes (tiles k (v + 2 ^ k) low end) ≡ below (v + 2 ^ k) (2 ^ k) end
         → below v (2 ^ suc k) low + sizes (tiles (suc k) v low end) ≡ below v (2 ^ suc k) end
-    go (inl i) l r = rw (whole (suc k) v low end i) (omega (arith, below_none v (2 ^ suc k) low i.low-in, below_all v (2 ^ suc k) end i.end-in))
-    go (inr i) l r = rw (split k v low end i, sizes-append) (omega (arith, below-halves k v low, below-halves k v end))
+    go (inl i) l r = rw (whole (suc k) v low end i) (omega (arith, below_none v (2 ^ suc k) low i.low_in, below_all v (2 ^ suc k) end i.end_in))
+    go (inr i) l r = rw (split k v low end i, sizes_append) (omega (arith, below_halves k v low, below_halves k v end))
 
-pub sizes-tiles : (n low end : ℕ) → low ≤ end → end ≤ 2 ^ n → low + sizes (tiles n 0 low end) ≡ end
+pub sizes_tiles : (n low end : ℕ) → low ≤ end → end ≤ 2 ^ n → low + sizes (tiles n 0 low end) ≡ end
 unfolding below
-sizes-tiles n low end o h = omega (arith, sizes-between n 0 low end o)
+sizes_tiles n low end o h = omega (arith, sizes_between n 0 low end o)

@@ -11,33 +11,33 @@ use borrow.Author.Tests.{lt-ltb, ltb-true, eq-eqb, eqb-true}
 use Rattle.blocks.specs.Tests.{formed?, matches?, some?}
 use Rattle.blocks.specs.Words.{AllFormed, Formed, Some}
 use Rattle.blocks.specs.declared.Word.{Word}
-use Rattle.blocks.proofs.Agreement.{formed-and, and-formed, match-value, value-match}
+use Rattle.blocks.proofs.Agreement.{formed_and, and_formed, match_value, value_match}
 
 module _ (n : ℕ) (w : Word) where
-  pub formed-test : formed? n w ≡ true → Formed n w
-  formed-test e =
+  pub formed_test : formed? n w ≡ true → Formed n w
+  formed_test e =
       let v = ltb w.value (2 ^ n) in
       let m = ltb w.mask (2 ^ n) in
       let a = (and-eq-true_iff (v && m) (eqb (bit_and w.value w.mask) w.value)).0 e in
       let b = (and-eq-true_iff v m).0 a.0 in
-      and-formed n w (eqb-true (bit_and w.value w.mask) w.value a.1) (ltb-true w.value (2 ^ n) b.0) (ltb-true w.mask (2 ^ n) b.1)
+      and_formed n w (eqb-true (bit_and w.value w.mask) w.value a.1) (ltb-true w.value (2 ^ n) b.0) (ltb-true w.mask (2 ^ n) b.1)
 
-  pub test-formed : Formed n w → formed? n w ≡ true
-  test-formed f =
+  pub test_formed : Formed n w → formed? n w ≡ true
+  test_formed f =
       rw
-      (lt-ltb w.value (2 ^ n) f.value-fits, lt-ltb w.mask (2 ^ n) f.mask_fits, eq-eqb (bit_and w.value w.mask) w.value (formed-and n w f))
+      (lt-ltb w.value (2 ^ n) f.value_fits, lt-ltb w.mask (2 ^ n) f.mask_fits, eq-eqb (bit_and w.value w.mask) w.value (formed_and n w f))
 
-pub some-test : (n : ℕ) (ws : List Word) (x : ℕ) → AllFormed n ws → some? ws x ≡ true → Some ws x
+pub some_test : (n : ℕ) (ws : List Word) (x : ℕ) → AllFormed n ws → some? ws x ≡ true → Some ws x
 unfolding some?
-some-test n [] x f e = absurd (false≢true e)
-some-test n (w ∷ ws) x f e = go (matches? w x) refl e (some-test n ws x (λ v m. f v (Memᴰ.tail m)))
+some_test n [] x f e = absurd (false≢true e)
+some_test n (w ∷ ws) x f e = go (matches? w x) refl e (some_test n ws x (λ v m. f v (Memᴰ.tail m)))
   where
     go : (b : Bool) → matches? w x ≡ b → (b || some? ws x) ≡ true → (some? ws x ≡ true → Some ws x) → Some (w ∷ ws) x
-    go true p q r = inl (value-match n w x (f w (Memᴰ.head refl)) (eqb-true (bit_and x w.mask) w.value p))
+    go true p q r = inl (value_match n w x (f w (Memᴰ.head refl)) (eqb-true (bit_and x w.mask) w.value p))
     go false p q r = inr (r q)
 
-pub test-some : (n : ℕ) (ws : List Word) (x : ℕ) → AllFormed n ws → Some ws x → some? ws x ≡ true
+pub test_some : (n : ℕ) (ws : List Word) (x : ℕ) → AllFormed n ws → Some ws x → some? ws x ≡ true
 unfolding some?
-test-some n [] x f s = absurd s
-test-some n (w ∷ ws) x f (inl m) = rw (eq-eqb (bit_and x w.mask) w.value (match-value n w x (f w (Memᴰ.head refl)) m), some?)
-test-some n (w ∷ ws) x f (inr s) = rw (test-some n ws x (λ v m. f v (Memᴰ.tail m)) s, some?) (or-true (matches? w x))
+test_some n [] x f s = absurd s
+test_some n (w ∷ ws) x f (inl m) = rw (eq-eqb (bit_and x w.mask) w.value (match_value n w x (f w (Memᴰ.head refl)) m), some?)
+test_some n (w ∷ ws) x f (inr s) = rw (test_some n ws x (λ v m. f v (Memᴰ.tail m)) s, some?) (or-true (matches? w x))

@@ -28,8 +28,8 @@ prefix_of n b = word b.from (mask_of n b.free)
 
 -- the 2 ^ k values from v on all lie in the interval
 pub record Inside (low end v k : ℕ) : Type 0 where
-  pub low-in : low ≤ v
-  pub end-in : v + 2 ^ k ≤ end
+  pub low_in : low ≤ v
+  pub end_in : v + 2 ^ k ≤ end
 
 -- A largest block of width n in the interval, k free bits from v on: it is aligned and inside, and it is the whole width,
 -- or the block with one leading bit fewer, which holds it, sticks out.
@@ -69,12 +69,12 @@ tiles (suc k) v low end =
     else halves
 
 -- the largest blocks of low .. high at width n
-abbrev pub blocksOf : ℕ → ℕ → ℕ → List Block
-blocksOf n low high = tiles n 0 low (high + 1)
+abbrev pub blocks_of : ℕ → ℕ → ℕ → List Block
+blocks_of n low high = tiles n 0 low (high + 1)
 
 -- their words
 abbrev pub words_of : ℕ → ℕ → ℕ → List Word
-words_of n low high = map (prefix_of n) (blocksOf n low high)
+words_of n low high = map (prefix_of n) (blocks_of n low high)
 
 -- how many values the blocks have together
 unfoldable pub sizes : List Block → ℕ

@@ -8,11 +8,11 @@ reaches? next end k = eqb (next % 2 ^ k) 0 && leb (next + 2 ^ k) end
 
 -- The most free bits, n at most, of a block that starts at next, is aligned and ends by end. It is 0 where no larger block
 -- does: next alone is always aligned, and ends by end wherever next < end.
-unfoldable pub freeOf : ℕ → ℕ → ℕ → ℕ
-freeOf zero next end = zero
-freeOf (suc k) next end = if reaches? next end (suc k) then suc k else freeOf k next end
+unfoldable pub free_of : ℕ → ℕ → ℕ → ℕ
+free_of zero next end = zero
+free_of (suc k) next end = if reaches? next end (suc k) then suc k else free_of k next end
 
 -- r is that number
 pub record Free (n next end r : ℕ) : Type 0 where
-  pub is : r ≡ freeOf n next end
+  pub is : r ≡ free_of n next end
   pub most : r ≤ n

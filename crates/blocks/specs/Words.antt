@@ -15,7 +15,7 @@ Matches w x = (i : ℕ) → bit i w.mask ≡ 1 → bit i x ≡ bit i w.value
 -- a well-formed word of width n: the value is 0 where the mask is 0, and both are 0 at bit n and above
 pub record Formed (n : ℕ) (w : Word) : Type 0 where
   pub clear : (i : ℕ) → bit i w.mask ≡ 0 → bit i w.value ≡ 0
-  pub value-fits : w.value < 2 ^ n
+  pub value_fits : w.value < 2 ^ n
   pub mask_fits : w.mask < 2 ^ n
 
 -- every word of the list is well formed

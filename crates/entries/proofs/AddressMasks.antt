@@ -11,8 +11,8 @@ module _ (k : ℕ) (h : k ≤ 32) where
   shift : (1 * 2 ^ k) % 2 ^ 64 ≡ 2 ^ k
   shift = shift_is 64 k (omega arith)
 
-  pub shift-most : (1 * 2 ^ k) % 2 ^ 64 ≤ 2 ^ 32
-  shift-most = rw shift (pow_mono h)
+  pub shift_most : (1 * 2 ^ k) % 2 ^ 64 ≤ 2 ^ 32
+  shift_most = rw shift (pow_mono h)
 
   pub mask_fits : 2 ^ 32 - (1 * 2 ^ k) % 2 ^ 64 < 2 ^ 32
   mask_fits = rw shift (omega (arith, pow_pos k))

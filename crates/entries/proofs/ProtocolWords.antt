@@ -3,13 +3,13 @@ use mathlib.Core.Path.{◌≡◌}
 use borrow.Author.Tests.{eq-eqb, ne_eqb}
 use Rattle.blocks.specs.Words.{word}
 use Rattle.records.specs.declared.Rule.{Rule}
-use Rattle.entries.specs.Words.{protoWord}
+use Rattle.entries.specs.Words.{proto_word}
 
 module _ (r : Rule) where
-  pub any-protocol : r.flag ≡ 1 → protoWord r ≡ word 0 0
-  unfolding protoWord
-  any-protocol h = simp (eq-eqb r.flag 1 h)
+  pub any_protocol : r.flag ≡ 1 → proto_word r ≡ word 0 0
+  unfolding proto_word
+  any_protocol h = simp (eq-eqb r.flag 1 h)
 
-  pub own-protocol : (r.flag ≡ 1 → ⊥) → protoWord r ≡ word r.proto 255
-  unfolding protoWord
-  own-protocol h = simp (ne_eqb r.flag 1 h)
+  pub own_protocol : (r.flag ≡ 1 → ⊥) → proto_word r ≡ word r.proto 255
+  unfolding proto_word
+  own_protocol h = simp (ne_eqb r.flag 1 h)

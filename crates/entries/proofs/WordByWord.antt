@@ -10,18 +10,18 @@ use Rattle.blocks.specs.Blocks.{prefix_of, tiles, words_of}
 use Rattle.blocks.specs.Lowest.{Free}
 use Rattle.blocks.specs.Words.{word}
 use Rattle.blocks.specs.declared.Word.{Word}
-use Rattle.blocks.proofs.Lowest.{first_block, free-end}
-use Rattle.blocks.proofs.Tiles.{tiles-none}
+use Rattle.blocks.proofs.Lowest.{first_block, free_end}
+use Rattle.blocks.proofs.Tiles.{tiles_none}
 use Rattle.fields.specs.Bytes.{Half}
-use Rattle.fields.specs.Writes.{writeAt}
-use Rattle.records.specs.Entries.{Entry, entryBytes, entry_of, tableBytes}
+use Rattle.fields.specs.Writes.{write_at}
+use Rattle.records.specs.Entries.{Entry, entry_bytes, entry_of, table_bytes}
 use Rattle.records.specs.Keys.{key}
-use Rattle.records.specs.Layout.{recordSize}
+use Rattle.records.specs.Layout.{record_size}
 use Rattle.records.specs.declared.Key.{Key}
 use Rattle.records.specs.declared.Rule.{Rule}
-use Rattle.entries.specs.Words.{destWords, portRow, portRows}
+use Rattle.entries.specs.Words.{dest_words, port_row, port_rows}
 use Rattle.entries.specs.Written.{Wrote}
-use Rattle.entries.proofs.Left.{Left, left-start, left-more, left-room, left_end}
+use Rattle.entries.proofs.Left.{Left, left_start, left_more, left_room, left_end}
 
 -- ---- the port words that are left
 
@@ -36,7 +36,7 @@ module _ (next end : ℕ) where
   next_word h f k m ek em = rw (em, ek.is) (ap (map (prefix_of 16)) (first_block 16 next end h f))
 
   no_word : end ≤ next → words_in next end ≡ []
-  no_word h = ap (map (prefix_of 16)) (tiles-none 16 0 next end h)
+  no_word h = ap (map (prefix_of 16)) (tiles_none 16 0 next end h)
 
 -- ---- one word after another
 
@@ -52,20 +52,20 @@ pub record Putting (f : List Word → List Entry) (before : List ℕ) (at : ℕ)
   pub left : Left before at (f all) now free (f (words_in next end))
 
 -- the words are those of low .. high, of which the code has widened both ends
-pub putting-start : (f : List Word → List Entry) (before : List ℕ) (at low high a b : ℕ) → low ≤ high → Half low a → Half high b
-    → at + recordSize * length (f (words_of 16 low high)) ≤ length before → Putting f before at (words_of 16 low high) (b + 1) before a at
-putting-start f before at low high a b h p q r =
+pub putting_start : (f : List Word → List Entry) (before : List ℕ) (at low high a b : ℕ) → low ≤ high → Half low a → Half high b
+    → at + record_size * length (f (words_of 16 low high)) ≤ length before → Putting f before at (words_of 16 low high) (b + 1) before a at
+putting_start f before at low high a b h p q r =
     let w : words_of 16 low high ≡ words_in a (b + 1) = ap₂ (words_of 16) (sym p.is) (sym q.is) in
     record {
       fits = omega (arith, q.small);
       step = omega (arith, p.is, q.is);
-      left = rw w (left-start before at (f (words_in a (b + 1))) (rw w at r));
+      left = rw w (left_start before at (f (words_in a (b + 1))) (rw w at r));
     }
 
 module _ {f : List Word → List Entry} {g : Word → List Entry} (joins : Joins f g)
     (before : List ℕ) (at : ℕ) (all : List Word) (end : ℕ) (now : List ℕ) (next free : ℕ) (s : Putting f before at all end now next free) where
-  pub putting-end : end ≤ next → Wrote before now at (f all) free
-  putting-end h = left_end before at (f all) now free (f (words_in next end)) (ap f (no_word next end h) ∙ joins.none) s.left
+  pub putting_end : end ≤ next → Wrote before now at (f all) free
+  putting_end h = left_end before at (f all) now free (f (words_in next end)) (ap f (no_word next end h) ∙ joins.none) s.left
 
   module _ (h : next < end) (k m : ℕ) (ek : Free 16 next end k) (em : m ≡ mask_of 16 k) where
     left_here : Left before at (f all) now free (g (word next m) ++ f (words_in (next + 2 ^ k) end))
@@ -74,15 +74,15 @@ module _ {f : List Word → List Entry} {g : Word → List Entry} (joins : Joins
         ap f (next_word next end h s.fits k m ek em) ∙ joins.more (word next m) (words_in (next + 2 ^ k) end) in
         rw e at s.left
 
-    pub putting-room : free + recordSize * length (g (word next m)) ≤ length now
-    putting-room = left-room before at (f all) now free (g (word next m)) (f (words_in (next + 2 ^ k) end)) left_here
+    pub putting_room : free + record_size * length (g (word next m)) ≤ length now
+    putting_room = left_room before at (f all) now free (g (word next m)) (f (words_in (next + 2 ^ k) end)) left_here
 
-    pub putting-more : (p : ℕ) → Power k p → (after : List ℕ) (free' : ℕ) → after ≡ writeAt now free (tableBytes (g (word next m)))
-        → free' ≡ free + recordSize * length (g (word next m)) → Putting f before at all end after (next + p) free'
-    putting-more p ep after free' e z = rw ep.is (record {
+    pub putting_more : (p : ℕ) → Power k p → (after : List ℕ) (free' : ℕ) → after ≡ write_at now free (table_bytes (g (word next m)))
+        → free' ≡ free + record_size * length (g (word next m)) → Putting f before at all end after (next + p) free'
+    putting_more p ep after free' e z = rw ep.is (record {
       fits = s.fits;
-      step = rw ek.is (free-end 16 next end h);
-      left = left-more before at (f all) now after free free' (g (word next m)) (f (words_in (next + 2 ^ k) end)) left_here e z;
+      step = rw ek.is (free_end 16 next end h);
+      left = left_more before at (f all) now after free free' (g (word next m)) (f (words_in (next + 2 ^ k) end)) left_here e z;
     })
 
 -- ---- a row, and a rule's rows
@@ -94,21 +94,21 @@ module _ (v m : Key) (r : Rule) (i : ℕ) where
 
   -- the row of one source word
   abbrev row : Word → List Entry
-  row s = portRow (key v.proto v.src v.dst s.value v.dport) (key m.proto m.src m.dst s.mask m.dport) r i (destWords r)
+  row s = port_row (key v.proto v.src v.dst s.value v.dport) (key m.proto m.src m.dst s.mask m.dport) r i (dest_words r)
 
-  pub row-joins : Joins (portRow v m r i) (λ (d : Word). cell d ∷ [])
-  unfolding portRow
-  row-joins = record { none = refl; more = λ (w : Word) (ws : List Word). refl }
+  pub row_joins : Joins (port_row v m r i) (λ (d : Word). cell d ∷ [])
+  unfolding port_row
+  row_joins = record { none = refl; more = λ (w : Word) (ws : List Word). refl }
 
-  pub rows-joins : Joins (portRows v m r i) row
-  unfolding portRows
-  rows-joins = record { none = refl; more = λ (w : Word) (ws : List Word). refl }
+  pub rows_joins : Joins (port_rows v m r i) row
+  unfolding port_rows
+  rows_joins = record { none = refl; more = λ (w : Word) (ws : List Word). refl }
 
   -- in a row a turn writes one record
-  pub row_more : (before : List ℕ) (at : ℕ) (all : List Word) (end : ℕ) (now : List ℕ) (next free : ℕ) → Putting (portRow v m r i) before at all end now next free
+  pub row_more : (before : List ℕ) (at : ℕ) (all : List Word) (end : ℕ) (now : List ℕ) (next free : ℕ) → Putting (port_row v m r i) before at all end now next free
       → next < end → (k x : ℕ) → Free 16 next end k → x ≡ mask_of 16 k → (p : ℕ) → Power k p
-      → (after : List ℕ) → after ≡ writeAt now free (entryBytes (cell (word next x))) → Putting (portRow v m r i) before at all end after (next + p) (free + recordSize)
-  unfolding tableBytes
+      → (after : List ℕ) → after ≡ write_at now free (entry_bytes (cell (word next x))) → Putting (port_row v m r i) before at all end after (next + p) (free + record_size)
+  unfolding table_bytes
   row_more before at all end now next free s h k x ek ex p ep after e =
-      putting-more row-joins before at all end now next free s h k x ek ex p ep after (free + recordSize)
-      (e ∙ ap (writeAt now free) (sym (append-nil (entryBytes (cell (word next x)))))) refl
+      putting_more row_joins before at all end now next free s h k x ek ex p ep after (free + record_size)
+      (e ∙ ap (write_at now free) (sym (append-nil (entry_bytes (cell (word next x)))))) refl

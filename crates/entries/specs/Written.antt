@@ -1,10 +1,10 @@
 -- What writing records leaves: they stand from a place on, and the answer is where the next one goes.
 use Rattle.std.specs.Prelude.{List, ◌≡◌, ℕ, ◌+◌, ◌*◌, length}
-use Rattle.fields.specs.Writes.{writeAt}
-use Rattle.records.specs.Entries.{Entry, tableBytes}
-use Rattle.records.specs.Layout.{recordSize}
+use Rattle.fields.specs.Writes.{write_at}
+use Rattle.records.specs.Entries.{Entry, table_bytes}
+use Rattle.records.specs.Layout.{record_size}
 
 pub record Wrote (before after : List ℕ) (at : ℕ) (es : List Entry) (next : ℕ) : Type 0 where
-  pub is : after ≡ writeAt before at (tableBytes es)
-  pub free : next ≡ at + recordSize * length es
+  pub is : after ≡ write_at before at (table_bytes es)
+  pub free : next ≡ at + record_size * length es
   pub same : length after ≡ length before

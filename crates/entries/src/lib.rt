@@ -3,8 +3,8 @@
 // record goes.
 ghost use Rattle.std.specs.Prelude.{◌≡◌, ◌*◌, ◌+◌, ◌-◌, ◌≤◌, length};
 ghost use Rattle.bits.specs.Masks.{mask_of};
-ghost use Rattle.records.specs.Layout.{recordSize};
-ghost use Rattle.entries.specs.Words.{Good, WordCount, destWords, portRow, portRows, protoWord, ruleEntries, sourceWords};
+ghost use Rattle.records.specs.Layout.{record_size};
+ghost use Rattle.entries.specs.Words.{Good, WordCount, dest_words, port_row, port_rows, proto_word, rule_entries, source_words};
 ghost use Rattle.entries.specs.Written.{Wrote};
 
 use records::{Key, RECORD_SIZE, Rule};
@@ -12,8 +12,8 @@ use records::{Key, RECORD_SIZE, Rule};
 // The records of one source word, which stands in value and mask, with every destination word.
 fn put_row(t: &mut [u8], at: usize, value: Key, mask: Key, r: Rule, number: u8) -> usize
     requires good { Good r }
-    requires r_in_bounds { at + recordSize * length (portRow value mask r number (destWords r)) ≤ length t.old }
-    ensures { Wrote t.old t.new at (portRow value mask r number (destWords r)) result }
+    requires r_in_bounds { at + record_size * length (port_row value mask r number (dest_words r)) ≤ length t.old }
+    ensures { Wrote t.old t.new at (port_row value mask r number (dest_words r)) result }
 {
     let end = fields::half(r.dhigh) + 1;
     let mut next = fields::half(r.dlow);
@@ -44,8 +44,8 @@ fn put_row(t: &mut [u8], at: usize, value: Key, mask: Key, r: Rule, number: u8) 
 // The records of one protocol word, which stands in value and mask: a row for every source word.
 fn put_rows(t: &mut [u8], at: usize, value: Key, mask: Key, r: Rule, number: u8) -> usize
     requires good { Good r }
-    requires r_in_bounds { at + recordSize * length (portRows value mask r number (sourceWords r)) ≤ length t.old }
-    ensures { Wrote t.old t.new at (portRows value mask r number (sourceWords r)) result }
+    requires r_in_bounds { at + record_size * length (port_rows value mask r number (source_words r)) ≤ length t.old }
+    ensures { Wrote t.old t.new at (port_rows value mask r number (source_words r)) result }
 {
     let end = fields::half(r.shigh) + 1;
     let mut next = fields::half(r.slow);
@@ -82,7 +82,7 @@ fn prefix_mask(len: u8) -> u32
 
 // The protocol's word: any protocol, or the rule's own.
 fn proto_value(r: Rule) -> u8
-    ensures { result ≡ (protoWord r).value }
+    ensures { result ≡ (proto_word r).value }
 {
     if r.flag == 1 {
         return 0;
@@ -91,7 +91,7 @@ fn proto_value(r: Rule) -> u8
 }
 
 fn proto_mask(r: Rule) -> u8
-    ensures { result ≡ (protoWord r).mask }
+    ensures { result ≡ (proto_word r).mask }
 {
     if r.flag == 1 {
         return 0;
@@ -102,8 +102,8 @@ fn proto_mask(r: Rule) -> u8
 // Writes a rule's records at the start of what is lent, and hands back how many bytes they take.
 pub fn put_rule(t: &mut [u8], r: Rule, number: u8) -> usize
     requires good { Good r }
-    requires r_in_bounds { recordSize * length (ruleEntries number r) ≤ length t.old }
-    ensures { Wrote t.old t.new 0 (ruleEntries number r) result }
+    requires r_in_bounds { record_size * length (rule_entries number r) ≤ length t.old }
+    ensures { Wrote t.old t.new 0 (rule_entries number r) result }
 {
     let value = Key {
         proto: proto_value(r),

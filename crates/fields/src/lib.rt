@@ -1,7 +1,7 @@
 // Big-endian numbers in a byte slice (document 01: "Numbers are big-endian"), read and written in place.
 ghost use Rattle.std.specs.Prelude.{[], ◌∷◌, ◌≡◌, ◌+◌, ◌≤◌, length};
 ghost use Rattle.fields.specs.Bytes.{Byte, Half, at2, at4, be2, be4};
-ghost use Rattle.fields.specs.Writes.{writeAt};
+ghost use Rattle.fields.specs.Writes.{write_at};
 
 // A byte as a wider number, with its bound.
 fn wide(x: u8) -> u32
@@ -33,14 +33,14 @@ pub fn get4(s: &[u8], at: usize) -> u32
 
 pub fn put1(t: &mut [u8], at: usize, x: u8)
     requires { at + 1 ≤ length t.old }
-    ensures { t.new ≡ writeAt t.old at (x ∷ []) }
+    ensures { t.new ≡ write_at t.old at (x ∷ []) }
 {
     t[at] = x;
 }
 
 pub fn put2(t: &mut [u8], at: usize, x: u16)
     requires { at + 2 ≤ length t.old }
-    ensures { t.new ≡ writeAt t.old at (be2 x) }
+    ensures { t.new ≡ write_at t.old at (be2 x) }
 {
     put1(t, at, (x / 256) as u8);
     put1(t, at + 1, (x % 256) as u8);
@@ -48,7 +48,7 @@ pub fn put2(t: &mut [u8], at: usize, x: u16)
 
 pub fn put4(t: &mut [u8], at: usize, x: u32)
     requires { at + 4 ≤ length t.old }
-    ensures { t.new ≡ writeAt t.old at (be4 x) }
+    ensures { t.new ≡ write_at t.old at (be4 x) }
 {
     put2(t, at, (x / 65536) as u16);
     put2(t, at + 2, (x % 65536) as u16);

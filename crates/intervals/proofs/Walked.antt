@@ -9,48 +9,48 @@ use Prim.Native.Nat.{ℕ, zero, suc, ◌+◌, ◌^◌, ◌≤◌, ◌<◌}
 use native.Mathlib.Omega.{arith}
 use lib.ListN.{length}
 use lib.Pow.{pow_mono, pow_pos}
-use Rattle.bits.proofs.Orders.{le-or-lt}
+use Rattle.bits.proofs.Orders.{le_or_lt}
 use Rattle.bits.specs.Masks.{Power, mask_of}
-use Rattle.blocks.specs.Blocks.{Block, Closed, Largest, block, blocksOf, prefix_of, words_of}
-use Rattle.blocks.specs.Lowest.{freeOf}
+use Rattle.blocks.specs.Blocks.{Block, Closed, Largest, block, blocks_of, prefix_of, words_of}
+use Rattle.blocks.specs.Lowest.{free_of}
 use Rattle.blocks.specs.declared.Word.{Word}
-use Rattle.blocks.proofs.Lowest.{first_block, free-le}
-use Rattle.blocks.proofs.Members.{tiles-list}
-use Rattle.blocks.proofs.Tiles.{tiles-none}
-use Rattle.intervals.specs.Walks.{Stepped, endedAt, gives, stepping, walkAfter, walk_of, walked, wordThen}
+use Rattle.blocks.proofs.Lowest.{first_block, free_le}
+use Rattle.blocks.proofs.Members.{tiles_list}
+use Rattle.blocks.proofs.Tiles.{tiles_none}
+use Rattle.intervals.specs.Walks.{Stepped, ended_at, gives, stepping, walk_after, walk_of, walked, word_then}
 use Rattle.intervals.specs.declared.walks.Walk.{Walk}
-use Rattle.intervals.proofs.Steps.{step-ended, step-good, gives-last, gives-on}
-use Rattle.intervals.proofs.Testing.{good-tested}
+use Rattle.intervals.proofs.Steps.{step_ended, step_good, gives_last, gives_on}
+use Rattle.intervals.proofs.Testing.{good_tested}
 
 adds : ℕ → Stepped → List Word
-adds f s = wordThen s.given s.word (walked f s.walk)
+adds f s = word_then s.given s.word (walked f s.walk)
 
 walked_more : (f : ℕ) (w : Walk) → walked (suc f) w ≡ adds f (stepping w)
 unfolding walked adds
 walked_more f w = refl
 
 -- an ended walk gives nothing, however many steps are taken
-pub walked-ended : (f : ℕ) (w : Walk) → w.ended ≡ true → walked f w ≡ []
+pub walked_ended : (f : ℕ) (w : Walk) → w.ended ≡ true → walked f w ≡ []
 unfolding walked adds
-walked-ended zero w e = refl
-walked-ended (suc f) w e = ap (adds f) (sym (step-ended w e))
+walked_ended zero w e = refl
+walked_ended (suc f) w e = ap (adds f) (sym (step_ended w e))
 
 -- and stays as it is
-pub after-ended : (f : ℕ) (w : Walk) → w.ended ≡ true → walkAfter f w ≡ w
-unfolding walkAfter
-after-ended zero w e = refl
-after-ended (suc f) w e = ap (λ (s : Stepped). walkAfter f s.walk) (sym (step-ended w e)) ∙ after-ended f w e
+pub after_ended : (f : ℕ) (w : Walk) → w.ended ≡ true → walk_after f w ≡ w
+unfolding walk_after
+after_ended zero w e = refl
+after_ended (suc f) w e = ap (λ (s : Stepped). walk_after f s.walk) (sym (step_ended w e)) ∙ after_ended f w e
 
-good-step : (n next last : ℕ) → Closed n next last → stepping (walk_of n next last) ≡ gives (walk_of n next last) (freeOf n next (last + 1))
-good-step n next last c = sym (step-good (walk_of n next last) refl (good-tested n next last c))
+good_step : (n next last : ℕ) → Closed n next last → stepping (walk_of n next last) ≡ gives (walk_of n next last) (free_of n next (last + 1))
+good_step n next last c = sym (step_good (walk_of n next last) refl (good_tested n next last c))
 
 -- One step gives a largest block of next .. last that begins with the very next value, so none is lower.
-pub step-lowest : (n next last : ℕ) → Closed n next last
+pub step_lowest : (n next last : ℕ) → Closed n next last
     → (k : ℕ) × Largest n next (last + 1) next k × (stepping (walk_of n next last) ≡ gives (walk_of n next last) k)
-step-lowest n next last c =
-    let k = freeOf n next (last + 1) in
+step_lowest n next last c =
+    let k = free_of n next (last + 1) in
     let e = first_block n next (last + 1) (omega arith) (omega arith) in
-    (k, (tiles-list n next (last + 1) (omega arith)).only (block next k) (rw e (Memᴰ.head refl)), good-step n next last c)
+    (k, (tiles_list n next (last + 1) (omega arith)).only (block next k) (rw e (Memᴰ.head refl)), good_step n next last c)
 
 -- the word of the block of k free bits from next on was given, and the walk is now w
 abbrev gave : ℕ → ℕ → ℕ → Walk → Stepped
@@ -58,39 +58,39 @@ gave n next k w = record { no = 0; given = 1; word = prefix_of n (block next k);
 
 -- The first step gives the list's first block: the walk goes on behind it, or it was the only one and the walk has ended.
 data Begins (n next last : ℕ) : Type 0 where
-  goes_on : (k : ℕ) → blocksOf n next last ≡ block next k ∷ blocksOf n (next + 2 ^ k) last → Closed n (next + 2 ^ k) last
+  goes_on : (k : ℕ) → blocks_of n next last ≡ block next k ∷ blocks_of n (next + 2 ^ k) last → Closed n (next + 2 ^ k) last
       → stepping (walk_of n next last) ≡ gave n next k (walk_of n (next + 2 ^ k) last) → Begins n next last
-  ends : (k : ℕ) → blocksOf n next last ≡ block next k ∷ [] → stepping (walk_of n next last) ≡ gave n next k (endedAt n next last) → Begins n next last
+  ends : (k : ℕ) → blocks_of n next last ≡ block next k ∷ [] → stepping (walk_of n next last) ≡ gave n next k (ended_at n next last) → Begins n next last
 
 begins : (n next last : ℕ) → Closed n next last → Begins n next last
-begins n next last c = go (le-or-lt (next + 2 ^ k) last)
+begins n next last c = go (le_or_lt (next + 2 ^ k) last)
   where
     k : ℕ
-    k = freeOf n next (last + 1)
+    k = free_of n next (last + 1)
 
-    first : blocksOf n next last ≡ block next k ∷ blocksOf n (next + 2 ^ k) last
+    first : blocks_of n next last ≡ block next k ∷ blocks_of n (next + 2 ^ k) last
     first = first_block n next (last + 1) (omega arith) (omega arith)
 
     power : Power k (2 ^ k)
-    power = record { is = refl; some = pow_pos k; small = omega (arith, pow_mono (free-le n next (last + 1)), pow_mono c.most) }
+    power = record { is = refl; some = pow_pos k; small = omega (arith, pow_mono (free_le n next (last + 1)), pow_mono c.most) }
 
     go : (next + 2 ^ k ≤ last) ⊎ (last < next + 2 ^ k) → Begins n next last
     go (inl l) =
         goes_on k first (record { some = c.some; most = c.most; fits = c.fits; order = l })
-        (good-step n next last c ∙ sym (gives-on (walk_of n next last) k (mask_of n k) (2 ^ k) refl power l))
+        (good_step n next last c ∙ sym (gives_on (walk_of n next last) k (mask_of n k) (2 ^ k) refl power l))
     go (inr l) =
-        ends k (first ∙ ap (λ (bs : List Block). block next k ∷ bs) (tiles-none n 0 (next + 2 ^ k) (last + 1) (omega arith)))
-        (good-step n next last c ∙ sym (gives-last (walk_of n next last) k (mask_of n k) (2 ^ k) refl power l))
+        ends k (first ∙ ap (λ (bs : List Block). block next k ∷ bs) (tiles_none n 0 (next + 2 ^ k) (last + 1) (omega arith)))
+        (good_step n next last c ∙ sym (gives_last (walk_of n next last) k (mask_of n k) (2 ^ k) refl power l))
 
-some_block : (n next last : ℕ) → Closed n next last → 1 ≤ length (blocksOf n next last)
+some_block : (n next last : ℕ) → Closed n next last → 1 ≤ length (blocks_of n next last)
 some_block n next last c = omega (arith, ap length (first_block n next (last + 1) (omega arith) (omega arith)))
 
 -- As many steps as the list has words, or more, give just the list: one word each, and then no more.
-pub walk-lists : (f n next last : ℕ) → Closed n next last → length (blocksOf n next last) ≤ f → walked f (walk_of n next last) ≡ words_of n next last
-walk-lists zero n next last c h = absurd (omega (arith, some_block n next last c))
-walk-lists (suc f) n next last c h = go (begins n next last c) (walk-lists f n)
+pub walk_lists : (f n next last : ℕ) → Closed n next last → length (blocks_of n next last) ≤ f → walked f (walk_of n next last) ≡ words_of n next last
+walk_lists zero n next last c h = absurd (omega (arith, some_block n next last c))
+walk_lists (suc f) n next last c h = go (begins n next last c) (walk_lists f n)
   where
-    go : Begins n next last → ((x y : ℕ) → Closed n x y → length (blocksOf n x y) ≤ f → walked f (walk_of n x y) ≡ words_of n x y)
+    go : Begins n next last → ((x y : ℕ) → Closed n x y → length (blocks_of n x y) ≤ f → walked f (walk_of n x y) ≡ words_of n x y)
         → walked (suc f) (walk_of n next last) ≡ words_of n next last
     go (goes_on k b d e) ih = unfold adds in
         walked_more f (walk_of n next last) ∙ ap (adds f) e
@@ -98,18 +98,18 @@ walk-lists (suc f) n next last c h = go (begins n next last c) (walk-lists f n)
         ∙ sym (ap (map (prefix_of n)) b)
     go (ends k b e) ih = unfold adds in
         walked_more f (walk_of n next last) ∙ ap (adds f) e
-        ∙ ap (λ (ws : List Word). prefix_of n (block next k) ∷ ws) (walked-ended f (endedAt n next last) refl)
+        ∙ ap (λ (ws : List Word). prefix_of n (block next k) ∷ ws) (walked_ended f (ended_at n next last) refl)
         ∙ sym (ap (map (prefix_of n)) b)
 
 -- And after as many steps, or more, the walk has ended.
-pub walk_ends : (f n next last : ℕ) → Closed n next last → length (blocksOf n next last) ≤ f → (walkAfter f (walk_of n next last)).ended ≡ true
+pub walk_ends : (f n next last : ℕ) → Closed n next last → length (blocks_of n next last) ≤ f → (walk_after f (walk_of n next last)).ended ≡ true
 walk_ends zero n next last c h = absurd (omega (arith, some_block n next last c))
 walk_ends (suc f) n next last c h = go (begins n next last c) (walk_ends f n)
   where
     ended : Stepped → Bool
-    ended s = (walkAfter f s.walk).ended
+    ended s = (walk_after f s.walk).ended
 
-    go : Begins n next last → ((x y : ℕ) → Closed n x y → length (blocksOf n x y) ≤ f → (walkAfter f (walk_of n x y)).ended ≡ true)
-        → (walkAfter (suc f) (walk_of n next last)).ended ≡ true
-    go (goes_on k b d e) ih = unfold walkAfter in ap ended e ∙ ih (next + 2 ^ k) last d (omega (arith, ap length b))
-    go (ends k b e) ih = unfold walkAfter in ap ended e ∙ ap (λ (w : Walk). w.ended) (after-ended f (endedAt n next last) refl)
+    go : Begins n next last → ((x y : ℕ) → Closed n x y → length (blocks_of n x y) ≤ f → (walk_after f (walk_of n x y)).ended ≡ true)
+        → (walk_after (suc f) (walk_of n next last)).ended ≡ true
+    go (goes_on k b d e) ih = unfold walk_after in ap ended e ∙ ih (next + 2 ^ k) last d (omega (arith, ap length b))
+    go (ends k b e) ih = unfold walk_after in ap ended e ∙ ap (λ (w : Walk). w.ended) (after_ended f (ended_at n next last) refl)

@@ -13,19 +13,19 @@ use Rattle.intervals.specs.declared.bounds.Place.TheVariants.{Past, Outside}
 use Rattle.intervals.specs.declared.ends.Fault.TheVariants.{Fit, Order}
 
 -- document 01's number and values for each answer
-abbrev pub closedAs : Closed → Answer
-closedAs (Range low high) = done low high 0 0
-closedAs (Refused f) = refused (number_of f) 0 0
+abbrev pub closed_as : Closed → Answer
+closed_as (Range low high) = done low high 0 0
+closed_as (Refused f) = refused (number_of f) 0 0
 
 -- the bound lies in -1 .. 2 ^ n
-abbrev pub boundFits? : ℕ → ℤ → Bool
-boundFits? n a = le_z (negsuc 0) a && le_z a (pos (2 ^ n))
+abbrev pub bound_fits? : ℕ → ℤ → Bool
+bound_fits? n a = le_z (negsuc 0) a && le_z a (pos (2 ^ n))
 
 -- B - A < 2 is asked as B < A + 2. In the last line neither A + 1 nor B - 1 is negative, so nat_abs is the number itself.
 unfoldable pub closing : ℕ → ℤ → ℤ → Answer
 closing n a b =
     if ltb n 1 || ltb 16 n then refused refusal.width 0 0
-    else if not (boundFits? n a && boundFits? n b) then refused refusal.fit 0 0
+    else if not (bound_fits? n a && bound_fits? n b) then refused refusal.fit 0 0
     else if lt_z b (a +ℤ pos 2) then refused refusal.order 0 0
     else done (nat_abs (a +ℤ pos 1)) (nat_abs (b +ℤ negsuc 0)) 0 0
 

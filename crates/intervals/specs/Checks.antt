@@ -1,7 +1,7 @@
 -- Checking a list of ternary words against an interval (document 01, "Checking a list").
 use Rattle.std.specs.Prelude.{Bool, ◌&&◌, List, [], ◌∷◌, ◌⊎◌, ℕ, zero, suc, ◌+◌, ◌*◌, ◌/◌, ◌^◌, ◌≤◌, leb, ltb, get_or, length}
 use Rattle.std.specs.Bool.{beq}
-use Rattle.answers.specs.Answers.{behindIll, done, refused}
+use Rattle.answers.specs.Answers.{behind_ill, done, refused}
 use Rattle.answers.specs.Refusals as refusal
 use Rattle.answers.specs.declared.Answer.{Answer}
 use Rattle.answers.specs.declared.Lowest.{Lowest}
@@ -15,21 +15,21 @@ use Rattle.intervals.specs.declared.checks.Checked.{Checked}
 use Rattle.intervals.specs.declared.checks.Checked.TheVariants.{Yes, Differs, Refused, Stated, Ill}
 
 -- document 01's number and values for each answer: 1 for yes, or 0 and the value on which they disagree
-abbrev pub checkedAs : Checked → Answer
-checkedAs Yes = done 1 0 0 0
-checkedAs (Differs x) = done 0 x 0 0
-checkedAs (Refused f) = refused (number_of f) 0 0
-checkedAs Stated = refused refusal.stated 0 0
-checkedAs (Ill i) = refused refusal.ill i 0
+abbrev pub checked_as : Checked → Answer
+checked_as Yes = done 1 0 0 0
+checked_as (Differs x) = done 0 x 0 0
+checked_as (Refused f) = refused (number_of f) 0 0
+checked_as Stated = refused refusal.stated 0 0
+checked_as (Ill i) = refused refusal.ill i 0
 
 -- word i of a list of numbers, value then mask
 abbrev pub word_at : List ℕ → ℕ → Word
 word_at l i = word (get_or l (2 * i) 0) (get_or l (2 * i + 1) 0)
 
 -- the k words of the list from word i on
-unfoldable pub wordsFrom : ℕ → ℕ → List ℕ → List Word
-wordsFrom i zero l = []
-wordsFrom i (suc k) l = word_at l i ∷ wordsFrom (i + 1) k l
+unfoldable pub words_from : ℕ → ℕ → List ℕ → List Word
+words_from i zero l = []
+words_from i (suc k) l = word_at l i ∷ words_from (i + 1) k l
 
 -- x is in the interval and no word matches it, or the other way round
 abbrev pub Disagree : ℕ → ℕ → List Word → ℕ → Type 0
@@ -40,9 +40,9 @@ abbrev pub agree? : ℕ → ℕ → List Word → ℕ → Bool
 agree? low high ws x = beq (leb low x && leb x high) (some? ws x)
 
 -- the lowest index, counted from i, of an ill-formed word
-unfoldable pub firstIll : ℕ → ℕ → List Word → Lowest
-firstIll n i [] = None
-firstIll n i (w ∷ ws) = if formed? n w then firstIll n (i + 1) ws else At i
+unfoldable pub first_ill : ℕ → ℕ → List Word → Lowest
+first_ill n i [] = None
+first_ill n i (w ∷ ws) = if formed? n w then first_ill n (i + 1) ws else At i
 
 -- yes, or the smallest of the d values from x on at which the interval and the words disagree
 unfoldable pub verdict : ℕ → ℕ → ℕ → ℕ → List Word → Answer
@@ -54,9 +54,9 @@ verdict (suc d) x low high ws =
 -- the answer on a good interval
 unfoldable pub judged : ℕ → ℕ → ℕ → List ℕ → ℕ → Answer
 judged n low high l k =
-    let ws = wordsFrom 0 k l in
+    let ws = words_from 0 k l in
     if ltb (length l / 2) k then refused refusal.stated 0 0
-    else behindIll (firstIll n 0 ws) (verdict (2 ^ n) 0 low high ws)
+    else behind_ill (first_ill n 0 ws) (verdict (2 ^ n) 0 low high ws)
 
 unfoldable pub checking : ℕ → ℕ → ℕ → List ℕ → ℕ → Answer
 checking n low high l k = behind (tested n low high) (judged n low high l k)

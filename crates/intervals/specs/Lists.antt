@@ -16,14 +16,14 @@ use Rattle.intervals.specs.declared.lists.Listed.{Listed}
 use Rattle.intervals.specs.declared.lists.Listed.TheVariants as listed
 
 -- document 01's number and values for each answer
-abbrev pub countedAs : Counted → Answer
-countedAs (counted.Words k) = done k 0 0 0
-countedAs (counted.Refused f) = refused (number_of f) 0 0
+abbrev pub counted_as : Counted → Answer
+counted_as (counted.Words k) = done k 0 0 0
+counted_as (counted.Refused f) = refused (number_of f) 0 0
 
-abbrev pub listedAs : Listed → Answer
-listedAs (listed.Words k) = done k 0 0 0
-listedAs (listed.Room k) = refused refusal.room k 0
-listedAs (listed.Refused f) = refused (number_of f) 0 0
+abbrev pub listed_as : Listed → Answer
+listed_as (listed.Words k) = done k 0 0 0
+listed_as (listed.Room k) = refused refusal.room k 0
+listed_as (listed.Refused f) = refused (number_of f) 0 0
 
 unfoldable pub counting : ℕ → ℕ → ℕ → Answer
 counting n low high = behind (tested n low high) (done (count_of n low high) 0 0 0)
@@ -39,9 +39,9 @@ unfoldable pub numbers : List Word → List ℕ
 numbers [] = []
 numbers (w ∷ ws) = w.value ∷ w.mask ∷ numbers ws
 
-abbrev pub numbersOf : ℕ → ℕ → ℕ → List ℕ
-numbersOf n low high = numbers (words_of n low high)
+abbrev pub numbers_of : ℕ → ℕ → ℕ → List ℕ
+numbers_of n low high = numbers (words_of n low high)
 
 -- the promise of `list`: what is answered, and the words at the start of the list lent
 abbrev pub Listing : ℕ → ℕ → ℕ → List ℕ → Answer → List ℕ → Type 0
-Listing n low high before = Lent (listing n low high (length before)) (numbersOf n low high) before
+Listing n low high before = Lent (listing n low high (length before)) (numbers_of n low high) before

@@ -2,7 +2,7 @@
 use Rattle.std.specs.Prelude.{true, false, List, [], ◌∷◌, ℕ, zero, suc, ◌+◌, ◌^◌, ltb}
 use Rattle.bits.specs.Choice.{if◌then◌else◌}
 use Rattle.bits.specs.Masks.{mask_of}
-use Rattle.blocks.specs.Lowest.{freeOf}
+use Rattle.blocks.specs.Lowest.{free_of}
 use Rattle.blocks.specs.Words.{word}
 use Rattle.blocks.specs.declared.Word.{Word}
 use Rattle.intervals.specs.Ends.{number_of, tested}
@@ -21,14 +21,14 @@ pub record Stepped : Type 0 where
   pub word : Word
   pub walk : Walk
 
-abbrev pub steppedBy : Gave → Word → Walk → Stepped
-steppedBy Next v w = record { no = 0; given = 1; word = v; walk = w }
-steppedBy NoMore v w = record { no = 0; given = 0; word = v; walk = w }
-steppedBy (Refused f) v w = record { no = number_of f; given = 0; word = v; walk = w }
+abbrev pub stepped_by : Gave → Word → Walk → Stepped
+stepped_by Next v w = record { no = 0; given = 1; word = v; walk = w }
+stepped_by NoMore v w = record { no = 0; given = 0; word = v; walk = w }
+stepped_by (Refused f) v w = record { no = number_of f; given = 0; word = v; walk = w }
 
 -- document 01's number and values for each answer
-abbrev pub steppedAs : Step → Stepped
-steppedAs s = steppedBy s.gave s.word s.walk
+abbrev pub stepped_as : Step → Stepped
+stepped_as s = stepped_by s.gave s.word s.walk
 
 abbrev pub zeros : Word
 zeros = word 0 0
@@ -36,8 +36,8 @@ zeros = word 0 0
 abbrev pub walk_of : ℕ → ℕ → ℕ → Walk
 walk_of n low high = record { width = n; next = low; last = high; ended = false }
 
-abbrev pub endedAt : ℕ → ℕ → ℕ → Walk
-endedAt n low high = record { width = n; next = low; last = high; ended = true }
+abbrev pub ended_at : ℕ → ℕ → ℕ → Walk
+ended_at n low high = record { width = n; next = low; last = high; ended = true }
 
 -- the block of k free bits from the next value on, and the walk after it
 unfoldable pub gives : Walk → ℕ → Stepped
@@ -47,32 +47,32 @@ gives w k =
       no = 0;
       given = 1;
       word = word w.next (mask_of w.width k);
-      walk = if ltb w.last past then endedAt w.width w.next w.last else walk_of w.width past w.last;
+      walk = if ltb w.last past then ended_at w.width w.next w.last else walk_of w.width past w.last;
     }
 
-unfoldable pub steppedFrom : Tested → Walk → Stepped
-steppedFrom Good w = gives w (freeOf w.width w.next (w.last + 1))
-steppedFrom (Bad f) w = record { no = number_of f; given = 0; word = zeros; walk = w }
+unfoldable pub stepped_from : Tested → Walk → Stepped
+stepped_from Good w = gives w (free_of w.width w.next (w.last + 1))
+stepped_from (Bad f) w = record { no = number_of f; given = 0; word = zeros; walk = w }
 
 -- One step: an ended walk says "no more" and comes back unchanged, whatever it holds. Any other is tested as an interval is,
 -- and then gives the lowest largest block of next .. last.
 unfoldable pub stepping : Walk → Stepped
 stepping w =
     if w.ended then record { no = 0; given = 0; word = zeros; walk = w }
-    else steppedFrom (tested w.width w.next w.last) w
+    else stepped_from (tested w.width w.next w.last) w
 
 -- What a step adds: its word in front of those that later steps give, where it gave one. Where it gave none (0) the walk came
 -- back as it was, so no later step gives one either.
-abbrev pub wordThen : ℕ → Word → List Word → List Word
-wordThen zero v vs = []
-wordThen (suc g) v vs = v ∷ vs
+abbrev pub word_then : ℕ → Word → List Word → List Word
+word_then zero v vs = []
+word_then (suc g) v vs = v ∷ vs
 
 -- the state after f steps
-unfoldable pub walkAfter : ℕ → Walk → Walk
-walkAfter zero w = w
-walkAfter (suc f) w = walkAfter f (stepping w).walk
+unfoldable pub walk_after : ℕ → Walk → Walk
+walk_after zero w = w
+walk_after (suc f) w = walk_after f (stepping w).walk
 
 -- the words that at most f steps give
 unfoldable pub walked : ℕ → Walk → List Word
 walked zero w = []
-walked (suc f) w = wordThen (stepping w).given (stepping w).word (walked f (stepping w).walk)
+walked (suc f) w = word_then (stepping w).given (stepping w).word (walked f (stepping w).walk)

@@ -1,7 +1,7 @@
 // Open bounds to a closed interval (document 01, "Intervals and words"; source document 000, definition 2.1).
 // The bounds are signed: -1 and 2^n are ordinary ones. Each is tested from -1 on before anything is subtracted.
 ghost use Rattle.std.specs.Prelude.{◌≡◌, ◌≤◌};
-ghost use Rattle.intervals.specs.Bounds.{closedAs, closing, ends, place};
+ghost use Rattle.intervals.specs.Bounds.{closed_as, closing, ends, place};
 
 use crate::ends::Fault;
 
@@ -58,7 +58,7 @@ fn join(x: Place, y: Place) -> Closed
 }
 
 pub fn close(n: u32, a: i32, b: i32) -> Closed
-    ensures { closedAs result ≡ closing n a b }
+    ensures { closed_as result ≡ closing n a b }
 {
     if n < 1 {
         return Closed::Refused(Fault::Width);

@@ -2,7 +2,7 @@
 ghost use Rattle.std.specs.Prelude.{◌≡◌, ◌*◌, ◌^◌, ◌≤◌, ◌<◌, length};
 ghost use Rattle.blocks.specs.Blocks.{Closed};
 ghost use Rattle.blocks.specs.Tests.{formed?, some?};
-ghost use Rattle.intervals.specs.Checks.{agree?, checkedAs, checking, firstIll, judged, verdict, wordsFrom};
+ghost use Rattle.intervals.specs.Checks.{agree?, checked_as, checking, first_ill, judged, verdict, words_from};
 
 use crate::ends::{Fault, Tested, test_ends};
 use answers::Lowest;
@@ -37,7 +37,7 @@ fn formed(n: u32, value: u16, mask: u16) -> bool
 fn first_ill(n: u32, list: &[u16], k: usize) -> Lowest
     requires n_bound { n ≤ 16 }
     requires k_in_bounds { 2 * k ≤ length list.now }
-    ensures { result ≡ firstIll n 0 (wordsFrom 0 k list.now) }
+    ensures { result ≡ first_ill n 0 (words_from 0 k list.now) }
 {
     let mut i: usize = 0;
     while i < k {
@@ -53,7 +53,7 @@ fn first_ill(n: u32, list: &[u16], k: usize) -> Lowest
 // One of the first k words matches x.
 fn some_match(list: &[u16], k: usize, x: u16) -> bool
     requires { 2 * k ≤ length list.now }
-    ensures { result ≡ some? (wordsFrom 0 k list.now) x }
+    ensures { result ≡ some? (words_from 0 k list.now) x }
 {
     let mut i: usize = 0;
     while i < k {
@@ -69,7 +69,7 @@ fn some_match(list: &[u16], k: usize, x: u16) -> bool
 fn agrees(low: u32, high: u32, list: &[u16], k: usize, x: u32) -> bool
     requires k_in_bounds { 2 * k ≤ length list.now }
     requires x_bound { x < 65536 }
-    ensures { result ≡ agree? low high (wordsFrom 0 k list.now) x }
+    ensures { result ≡ agree? low high (words_from 0 k list.now) x }
 {
     let m = some_match(list, k, x as u16);
     if x < low {
@@ -85,7 +85,7 @@ fn agrees(low: u32, high: u32, list: &[u16], k: usize, x: u32) -> bool
 fn judge(n: u32, low: u32, high: u32, list: &[u16], k: usize) -> Checked
     requires k_in_bounds { 2 * k ≤ length list.now }
     requires n_bound { n ≤ 16 }
-    ensures { checkedAs result ≡ verdict (2 ^ n) 0 low high (wordsFrom 0 k list.now) }
+    ensures { checked_as result ≡ verdict (2 ^ n) 0 low high (words_from 0 k list.now) }
 {
     let size = bits::power(n);
     let mut x: u32 = 0;
@@ -102,7 +102,7 @@ fn judge(n: u32, low: u32, high: u32, list: &[u16], k: usize) -> Checked
 // The answer where the interval is good.
 fn check_good(n: u32, low: u32, high: u32, list: &[u16], k: usize) -> Checked
     requires { Closed n low high }
-    ensures { checkedAs result ≡ judged n low high list.now k }
+    ensures { checked_as result ≡ judged n low high list.now k }
 {
     if list.len() / 2 < k {
         return Checked::Stated;
@@ -114,7 +114,7 @@ fn check_good(n: u32, low: u32, high: u32, list: &[u16], k: usize) -> Checked
 }
 
 pub fn check(n: u32, low: u32, high: u32, list: &[u16], k: usize) -> Checked
-    ensures { checkedAs result ≡ checking n low high list.now k }
+    ensures { checked_as result ≡ checking n low high list.now k }
 {
     match test_ends(n, low, high) {
         Tested::Bad(f) => Checked::Refused(f),

@@ -1,8 +1,8 @@
 // Counting and listing an interval's prefix words (document 01, "Count" and "Intervals and words").
 ghost use Rattle.std.specs.Prelude.{◌≡◌, ◌≤◌, length};
 ghost use Rattle.blocks.specs.Blocks.{Closed};
-ghost use Rattle.fields.specs.Writes.{writeAt};
-ghost use Rattle.intervals.specs.Lists.{Listing, countedAs, counting, listedAs, numbersOf};
+ghost use Rattle.fields.specs.Writes.{write_at};
+ghost use Rattle.intervals.specs.Lists.{Listing, counted_as, counting, listed_as, numbers_of};
 
 use crate::ends::{Fault, Tested, test_ends};
 
@@ -13,7 +13,7 @@ pub enum Counted {
 }
 
 pub fn count(n: u32, low: u32, high: u32) -> Counted
-    ensures { countedAs result ≡ counting n low high }
+    ensures { counted_as result ≡ counting n low high }
 {
     match test_ends(n, low, high) {
         Tested::Bad(f) => Counted::Refused(f),
@@ -32,8 +32,8 @@ pub enum Listed {
 // Writes a closed interval's words to a list that has room for them.
 fn fill(n: u32, low: u32, high: u32, out: &mut [u16])
     requires closed { Closed n low high }
-    requires high_in_bounds { length (numbersOf n low high) ≤ length out.old }
-    ensures { out.new ≡ writeAt out.old 0 (numbersOf n low high) }
+    requires high_in_bounds { length (numbers_of n low high) ≤ length out.old }
+    ensures { out.new ≡ write_at out.old 0 (numbers_of n low high) }
 {
     let end = high + 1;
     let mut next = low;
@@ -50,7 +50,7 @@ fn fill(n: u32, low: u32, high: u32, out: &mut [u16])
 // Lists a closed interval where there is room.
 fn list_good(n: u32, low: u32, high: u32, out: &mut [u16]) -> Listed
     requires { Closed n low high }
-    ensures { Listing n low high out.old (listedAs result) out.new }
+    ensures { Listing n low high out.old (listed_as result) out.new }
 {
     let k = blocks::count(n, low, high);
     if out.len() < 2 * (k as usize) {
@@ -61,7 +61,7 @@ fn list_good(n: u32, low: u32, high: u32, out: &mut [u16]) -> Listed
 }
 
 pub fn list(n: u32, low: u32, high: u32, out: &mut [u16]) -> Listed
-    ensures { Listing n low high out.old (listedAs result) out.new }
+    ensures { Listing n low high out.old (listed_as result) out.new }
 {
     match test_ends(n, low, high) {
         Tested::Bad(f) => Listed::Refused(f),

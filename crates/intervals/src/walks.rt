@@ -1,8 +1,8 @@
 // An interval's prefix words one by one (document 01, "One by one"). The state is handed in and the next state handed back.
 ghost use Rattle.std.specs.Prelude.{◌≡◌, ◌+◌};
 ghost use Rattle.blocks.specs.Blocks.{Closed};
-ghost use Rattle.blocks.specs.Lowest.{freeOf};
-ghost use Rattle.intervals.specs.Walks.{gives, steppedAs, stepping};
+ghost use Rattle.blocks.specs.Lowest.{free_of};
+ghost use Rattle.intervals.specs.Walks.{gives, stepped_as, stepping};
 
 use crate::ends::{Fault, Tested, test_ends};
 use blocks::Word;
@@ -32,7 +32,7 @@ pub struct Step {
 
 impl Walk {
     pub fn step(self) -> Step
-        ensures { steppedAs result ≡ stepping self }
+        ensures { stepped_as result ≡ stepping self }
     {
         let none = Word { value: 0, mask: 0 };
         if self.ended {
@@ -55,7 +55,7 @@ impl Walk {
     // The step of a good walk that has not ended.
     fn forward(self) -> Step
         requires { Closed self.width self.next self.last }
-        ensures { steppedAs result ≡ gives self (freeOf self.width self.next (self.last + 1)) }
+        ensures { stepped_as result ≡ gives self (free_of self.width self.next (self.last + 1)) }
     {
         let n = self.width;
         let next = self.next;

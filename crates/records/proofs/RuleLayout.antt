@@ -4,25 +4,25 @@ use mathlib.Core.Path.{◌≡◌, refl}
 use Prim.Native.Nat.{ℕ, ◌+◌, ◌≤◌}
 use native.Mathlib.Omega.{arith}
 use lib.ListN.{length}
-use Rattle.fields.specs.Writes.{writeAt}
+use Rattle.fields.specs.Writes.{write_at}
 use Rattle.fields.proofs.Writing.{write_then}
-use Rattle.records.specs.Layout.{ruleSize}
-use Rattle.records.specs.Rules.{portsBytes, prefixBytes, ruleBytes}
+use Rattle.records.specs.Layout.{rule_size}
+use Rattle.records.specs.Rules.{ports_bytes, prefix_bytes, rule_bytes}
 use Rattle.records.specs.declared.Rule.{Rule}
 
 -- flag, protocol, two addresses, two intervals and action, d1 to d7 what the list holds after each
-pub rule-written : (d d1 d2 d3 d4 d5 d6 d7 : List ℕ) (at : ℕ) (r : Rule) → at + ruleSize ≤ length d
-    → d1 ≡ writeAt d at (r.flag ∷ []) → d2 ≡ writeAt d1 (at + 1) (r.proto ∷ [])
-    → d3 ≡ writeAt d2 (at + 2) (prefixBytes r.src r.slen) → d4 ≡ writeAt d3 (at + 7) (prefixBytes r.dst r.dlen)
-    → d5 ≡ writeAt d4 (at + 12) (portsBytes r.slow r.shigh) → d6 ≡ writeAt d5 (at + 16) (portsBytes r.dlow r.dhigh)
-    → d7 ≡ writeAt d6 (at + 20) (r.action ∷ []) → d7 ≡ writeAt d at (ruleBytes r)
-unfolding ruleBytes
-rule-written d d1 d2 d3 d4 d5 d6 d7 at r h e1 e2 e3 e4 e5 e6 e7 =
+pub rule_written : (d d1 d2 d3 d4 d5 d6 d7 : List ℕ) (at : ℕ) (r : Rule) → at + rule_size ≤ length d
+    → d1 ≡ write_at d at (r.flag ∷ []) → d2 ≡ write_at d1 (at + 1) (r.proto ∷ [])
+    → d3 ≡ write_at d2 (at + 2) (prefix_bytes r.src r.slen) → d4 ≡ write_at d3 (at + 7) (prefix_bytes r.dst r.dlen)
+    → d5 ≡ write_at d4 (at + 12) (ports_bytes r.slow r.shigh) → d6 ≡ write_at d5 (at + 16) (ports_bytes r.dlow r.dhigh)
+    → d7 ≡ write_at d6 (at + 20) (r.action ∷ []) → d7 ≡ write_at d at (rule_bytes r)
+unfolding rule_bytes
+rule_written d d1 d2 d3 d4 d5 d6 d7 at r h e1 e2 e3 e4 e5 e6 e7 =
     let first = r.flag ∷ r.proto ∷ [] in
-    let src = prefixBytes r.src r.slen in
-    let dst = prefixBytes r.dst r.dlen in
-    let sports = portsBytes r.slow r.shigh in
-    let dports = portsBytes r.dlow r.dhigh in
+    let src = prefix_bytes r.src r.slen in
+    let dst = prefix_bytes r.dst r.dlen in
+    let sports = ports_bytes r.slow r.shigh in
+    let dports = ports_bytes r.dlow r.dhigh in
     let f2 = write_then d d1 d2 at (at + 1) (r.flag ∷ []) (r.proto ∷ []) e1 e2 refl (omega arith) in
     let f3 = write_then d d2 d3 at (at + 2) first src f2 e3 refl (omega arith) in
     let f4 = write_then d d3 d4 at (at + 7) (first ++ src) dst f3 e4 refl (omega arith) in

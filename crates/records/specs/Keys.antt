@@ -10,8 +10,8 @@ key proto src dst sport dport = record { proto = proto; src = src; dst = dst; sp
 unfoldable pub key_at : List ℕ → Key
 key_at l = key (get_or l 0 0) (at4 l 1) (at4 l 5) (at2 l 9) (at2 l 11)
 
-unfoldable pub keyBytes : Key → List ℕ
-keyBytes k = k.proto ∷ (be4 k.src ++ (be4 k.dst ++ (be2 k.sport ++ be2 k.dport)))
+unfoldable pub key_bytes : Key → List ℕ
+key_bytes k = k.proto ∷ (be4 k.src ++ (be4 k.dst ++ (be2 k.sport ++ be2 k.dport)))
 
 -- every field fits its bytes
 pub record KeyFits (k : Key) : Type 0 where

@@ -1,12 +1,12 @@
 -- The 21 bytes of a rule, and the rules of a list of bytes.
 use Rattle.std.specs.Prelude.{List, [], ◌∷◌, ◌++◌, ℕ, zero, suc, ◌/◌, ◌^◌, ◌<◌, drop, get_or, length}
 use Rattle.fields.specs.Bytes.{at2, at4, be2, be4}
-use Rattle.records.specs.Layout.{ruleSize}
+use Rattle.records.specs.Layout.{rule_size}
 use Rattle.records.specs.declared.Rule.{Rule}
 
 -- the rule at the start of the list
-unfoldable pub ruleAt : List ℕ → Rule
-ruleAt l = record {
+unfoldable pub rule_at : List ℕ → Rule
+rule_at l = record {
   flag = get_or l 0 0;
   proto = get_or l 1 0;
   src = at4 l 2;
@@ -21,13 +21,13 @@ ruleAt l = record {
 }
 
 -- the first n rules of the list
-unfoldable pub rulesOf : ℕ → List ℕ → List Rule
-rulesOf zero l = []
-rulesOf (suc n) l = ruleAt l ∷ rulesOf n (drop ruleSize l)
+unfoldable pub rules_of : ℕ → List ℕ → List Rule
+rules_of zero l = []
+rules_of (suc n) l = rule_at l ∷ rules_of n (drop rule_size l)
 
 -- all of them
-abbrev pub allRules : List ℕ → List Rule
-allRules l = rulesOf (length l / ruleSize) l
+abbrev pub all_rules : List ℕ → List Rule
+all_rules l = rules_of (length l / rule_size) l
 
 -- the protocol, the addresses, the ports and the action fit their bytes
 pub record RuleFits (r : Rule) : Type 0 where
@@ -41,19 +41,19 @@ pub record RuleFits (r : Rule) : Type 0 where
   pub action : r.action < 2 ^ 8
 
 -- an address and its length, and an interval of ports, as bytes
-abbrev pub prefixBytes : ℕ → ℕ → List ℕ
-prefixBytes a len = be4 a ++ (len ∷ [])
+abbrev pub prefix_bytes : ℕ → ℕ → List ℕ
+prefix_bytes a len = be4 a ++ (len ∷ [])
 
-abbrev pub portsBytes : ℕ → ℕ → List ℕ
-portsBytes low high = be2 low ++ be2 high
+abbrev pub ports_bytes : ℕ → ℕ → List ℕ
+ports_bytes low high = be2 low ++ be2 high
 
-unfoldable pub ruleBytes : Rule → List ℕ
-ruleBytes r =
+unfoldable pub rule_bytes : Rule → List ℕ
+rule_bytes r =
     r.flag ∷ r.proto
-    ∷ (prefixBytes r.src r.slen ++ (prefixBytes r.dst r.dlen
-    ++ (portsBytes r.slow r.shigh ++ (portsBytes r.dlow r.dhigh ++ (r.action ∷ [])))))
+    ∷ (prefix_bytes r.src r.slen ++ (prefix_bytes r.dst r.dlen
+    ++ (ports_bytes r.slow r.shigh ++ (ports_bytes r.dlow r.dhigh ++ (r.action ∷ [])))))
 
 -- a rule list's bytes
-unfoldable pub listBytes : List Rule → List ℕ
-listBytes [] = []
-listBytes (r ∷ rs) = ruleBytes r ++ listBytes rs
+unfoldable pub list_bytes : List Rule → List ℕ
+list_bytes [] = []
+list_bytes (r ∷ rs) = rule_bytes r ++ list_bytes rs

@@ -1,11 +1,11 @@
 // The layouts of document 01 ("Rule, header and table records"): a header, a rule and a table record, as bytes and as numbers.
 // Sizes, offsets and limits are named here and in specs/ and nowhere else.
 ghost use Rattle.std.specs.Prelude.{◌≡◌, ◌+◌, ◌≤◌, length};
-ghost use Rattle.fields.specs.Writes.{writeAt};
-ghost use Rattle.records.specs.Keys.{key_at, keyBytes};
-ghost use Rattle.records.specs.Entries.{entryBytes, entry_of};
-ghost use Rattle.records.specs.Layout.{keySize, recordSize, ruleSize};
-ghost use Rattle.records.specs.Rules.{portsBytes, prefixBytes, ruleAt, ruleBytes};
+ghost use Rattle.fields.specs.Writes.{write_at};
+ghost use Rattle.records.specs.Keys.{key_at, key_bytes};
+ghost use Rattle.records.specs.Entries.{entry_bytes, entry_of};
+ghost use Rattle.records.specs.Layout.{key_size, record_size, rule_size};
+ghost use Rattle.records.specs.Rules.{ports_bytes, prefix_bytes, rule_at, rule_bytes};
 
 // Bytes of a header, of a word's value and of its mask.
 pub const KEY_SIZE: usize = 13;
@@ -58,8 +58,8 @@ pub struct Rule {
 
 // The rule at the start of s.
 pub fn read_rule(s: &[u8]) -> Rule
-    requires { ruleSize ≤ length s.now }
-    ensures { result ≡ ruleAt s.now }
+    requires { rule_size ≤ length s.now }
+    ensures { result ≡ rule_at s.now }
 {
     Rule {
         flag: s[0],
@@ -78,7 +78,7 @@ pub fn read_rule(s: &[u8]) -> Rule
 
 fn put_prefix(t: &mut [u8], at: usize, address: u32, len: u8)
     requires { at + 5 ≤ length t.old }
-    ensures { t.new ≡ writeAt t.old at (prefixBytes address len) }
+    ensures { t.new ≡ write_at t.old at (prefix_bytes address len) }
 {
     fields::put4(t, at, address);
     fields::put1(t, at + 4, len);
@@ -86,7 +86,7 @@ fn put_prefix(t: &mut [u8], at: usize, address: u32, len: u8)
 
 fn put_ports(t: &mut [u8], at: usize, low: u16, high: u16)
     requires { at + 4 ≤ length t.old }
-    ensures { t.new ≡ writeAt t.old at (portsBytes low high) }
+    ensures { t.new ≡ write_at t.old at (ports_bytes low high) }
 {
     fields::put2(t, at, low);
     fields::put2(t, at + 2, high);
@@ -94,8 +94,8 @@ fn put_ports(t: &mut [u8], at: usize, low: u16, high: u16)
 
 // Writes a rule.
 pub fn put_rule(t: &mut [u8], at: usize, r: Rule)
-    requires { at + ruleSize ≤ length t.old }
-    ensures { t.new ≡ writeAt t.old at (ruleBytes r) }
+    requires { at + rule_size ≤ length t.old }
+    ensures { t.new ≡ write_at t.old at (rule_bytes r) }
 {
     fields::put1(t, at, r.flag);
     fields::put1(t, at + 1, r.proto);
@@ -108,7 +108,7 @@ pub fn put_rule(t: &mut [u8], at: usize, r: Rule)
 
 // The header at the start of s.
 pub fn read_key(s: &[u8]) -> Key
-    requires { keySize ≤ length s.now }
+    requires { key_size ≤ length s.now }
     ensures { result ≡ key_at s.now }
 {
     Key {
@@ -122,8 +122,8 @@ pub fn read_key(s: &[u8]) -> Key
 
 // Writes a key laid out as a header.
 pub fn put_key(t: &mut [u8], at: usize, k: Key)
-    requires { at + keySize ≤ length t.old }
-    ensures { t.new ≡ writeAt t.old at (keyBytes k) }
+    requires { at + key_size ≤ length t.old }
+    ensures { t.new ≡ write_at t.old at (key_bytes k) }
 {
     fields::put1(t, at, k.proto);
     fields::put4(t, at + 1, k.src);
@@ -134,8 +134,8 @@ pub fn put_key(t: &mut [u8], at: usize, k: Key)
 
 // Writes a table record.
 pub fn put_record(t: &mut [u8], at: usize, value: Key, mask: Key, number: u8, action: u8)
-    requires { at + recordSize ≤ length t.old }
-    ensures { t.new ≡ writeAt t.old at (entryBytes (entry_of value mask number action)) }
+    requires { at + record_size ≤ length t.old }
+    ensures { t.new ≡ write_at t.old at (entry_bytes (entry_of value mask number action)) }
 {
     put_key(t, at, value);
     put_key(t, at + MASK_AT, mask);

@@ -8,14 +8,14 @@ use lib.Dec.{eqb}
 use lib.ListN.{length}
 use borrow.Author.Tests.{eq-eqb, eqb-true, ltb-false, not-false}
 use Rattle.bits.specs.Choice.{if◌then◌else◌}
-use Rattle.records.specs.Layout.{ruleLimit, ruleSize}
-use Rattle.records.specs.Rules.{allRules}
+use Rattle.records.specs.Layout.{rule_limit, rule_size}
+use Rattle.records.specs.Rules.{all_rules}
 use Rattle.records.specs.declared.Rule.{Rule}
-use Rattle.rules.specs.Faults.{badField, faults, firstBad, firstTrue, testedRules}
+use Rattle.rules.specs.Faults.{bad_field, faults, first_bad, first_true, tested_rules}
 use Rattle.rules.specs.declared.faults.ListFault.{ListFault}
 use Rattle.rules.specs.declared.faults.ListFault.TheVariants.{Odd, Many, Bad}
 use Rattle.rules.specs.declared.faults.ListTest.TheVariants.{Good, Refused}
-use Rattle.rules.proofs.Testing.{tested-each, tested-past}
+use Rattle.rules.proofs.Testing.{tested_each, tested_past}
 
 -- ---- a rule
 
@@ -23,11 +23,11 @@ abbrev AllFalse : List Bool → Type 0
 AllFalse [] = Unit
 AllFalse (b ∷ bs) = (b ≡ false) × AllFalse bs
 
-all-false : (i : ℕ) (bs : List Bool) → 0 < i → firstTrue i bs ≡ 0 → AllFalse bs
-unfolding firstTrue
-all-false i [] h e = tt
-all-false i (true ∷ bs) h e = absurd (omega arith)
-all-false i (false ∷ bs) h e = (refl, all-false (i + 1) bs (omega arith) e)
+all_false : (i : ℕ) (bs : List Bool) → 0 < i → first_true i bs ≡ 0 → AllFalse bs
+unfolding first_true
+all_false i [] h e = tt
+all_false i (true ∷ bs) h e = absurd (omega arith)
+all_false i (false ∷ bs) h e = (refl, all_false (i + 1) bs (omega arith) e)
 
 -- no field of the rule is bad
 pub record Fine (r : Rule) : Type 0 where
@@ -41,10 +41,10 @@ pub record Fine (r : Rule) : Type 0 where
   pub dest : r.dlow ≤ r.dhigh
   pub action : r.action ≤ 3
 
-pub fine : (r : Rule) → badField r ≡ 0 → Fine r
-unfolding badField
+pub fine : (r : Rule) → bad_field r ≡ 0 → Fine r
+unfolding bad_field
 fine r e =
-    let a = all-false 1 (faults r) (omega arith) e in
+    let a = all_false 1 (faults r) (omega arith) e in
     record {
       flag = ltb-false 1 r.flag a.0;
       spare = λ (h : r.flag ≡ 1). eqb-true r.proto 0 (not-false (eqb r.proto 0) (rw (eq-eqb r.flag 1 h) at a.1.0));
@@ -60,31 +60,31 @@ fine r e =
 -- ---- rules
 
 -- the first is good, and so are those after it
-pub good-next : (i : ℕ) (r : Rule) (rs : List Rule) → firstBad i (r ∷ rs) ≡ Good → (badField r ≡ 0) × (firstBad (i + 1) rs ≡ Good)
-unfolding firstBad
-good-next i r rs e = go (eqb (badField r) 0) refl e
+pub good_next : (i : ℕ) (r : Rule) (rs : List Rule) → first_bad i (r ∷ rs) ≡ Good → (bad_field r ≡ 0) × (first_bad (i + 1) rs ≡ Good)
+unfolding first_bad
+good_next i r rs e = go (eqb (bad_field r) 0) refl e
   where
-    go : (b : Bool) → eqb (badField r) 0 ≡ b → (if b then firstBad (i + 1) rs else Refused (Bad i (badField r))) ≡ Good
-        → (badField r ≡ 0) × (firstBad (i + 1) rs ≡ Good)
-    go true z w = (eqb-true (badField r) 0 z, w)
+    go : (b : Bool) → eqb (bad_field r) 0 ≡ b → (if b then first_bad (i + 1) rs else Refused (Bad i (bad_field r))) ≡ Good
+        → (bad_field r ≡ 0) × (first_bad (i + 1) rs ≡ Good)
+    go true z w = (eqb-true (bad_field r) 0 z, w)
     go false z w = let n : ◌≡◌ {A = ℕ} 0 1 = cc in absurd (omega arith)
 
 -- ---- a list
 
 -- no test of the list refuses it
 pub record GoodList (l : List ℕ) : Type 0 where
-  pub whole : length l % ruleSize ≡ 0
-  pub few : length l / ruleSize ≤ ruleLimit
-  pub good : firstBad 0 (allRules l) ≡ Good
+  pub whole : length l % rule_size ≡ 0
+  pub few : length l / rule_size ≤ rule_limit
+  pub good : first_bad 0 (all_rules l) ≡ Good
 
 module _ (l : List ℕ) where
-  not-refused : (f : ListFault) → testedRules l ≡ Good → testedRules l ≡ Refused f → ⊥
-  not-refused f e g = let z : ◌≡◌ {A = ℕ} 0 1 = cc in omega arith
+  not_refused : (f : ListFault) → tested_rules l ≡ Good → tested_rules l ≡ Refused f → ⊥
+  not_refused f e g = let z : ◌≡◌ {A = ℕ} 0 1 = cc in omega arith
 
-  pub good-list : testedRules l ≡ Good → GoodList l
-  good-list e =
-      let p = tested-past l (not-refused Odd e) (not-refused Many e) in
-      record { whole = p.0; few = p.1; good = sym (tested-each l p.0 p.1) ∙ e }
+  pub good_list : tested_rules l ≡ Good → GoodList l
+  good_list e =
+      let p = tested_past l (not_refused Odd e) (not_refused Many e) in
+      record { whole = p.0; few = p.1; good = sym (tested_each l p.0 p.1) ∙ e }
 
-  pub list-good : GoodList l → testedRules l ≡ Good
-  list-good g = tested-each l g.whole g.few ∙ g.good
+  pub list_good : GoodList l → tested_rules l ≡ Good
+  list_good g = tested_each l g.whole g.few ∙ g.good

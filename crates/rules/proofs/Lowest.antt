@@ -10,26 +10,26 @@ use lib.Dec.{eqb}
 use lib.ListN.{get_or}
 use borrow.Author.Tests.{eqb-true, eqb-false}
 use Rattle.bits.specs.Choice.{if◌then◌else◌}
-use Rattle.records.specs.Rules.{allRules}
+use Rattle.records.specs.Rules.{all_rules}
 use Rattle.records.specs.declared.Rule.{Rule}
-use Rattle.rules.specs.Faults.{badField, faults, firstBad, firstTrue, testedRules}
+use Rattle.rules.specs.Faults.{bad_field, faults, first_bad, first_true, tested_rules}
 use Rattle.rules.specs.Lowest.{FirstTest, LowestBad}
 use Rattle.rules.specs.declared.faults.ListFault.TheVariants.{Odd, Many, Bad}
 use Rattle.rules.specs.declared.faults.ListTest.TheVariants.{Refused}
-use Rattle.rules.proofs.Testing.{tested-each, tested-past}
+use Rattle.rules.proofs.Testing.{tested_each, tested_past}
 
 -- ---- the rule
 
-pub lowest-bad : (j : ℕ) (rs : List Rule) (i f : ℕ) → firstBad j rs ≡ Refused (Bad i f) → LowestBad rs j i f
-unfolding firstBad
-lowest-bad j [] i f e = let z : ◌≡◌ {A = ℕ} 0 1 = cc in absurd (omega arith)
-lowest-bad j (r ∷ rs) i f e = go (eqb (badField r) 0) refl e (lowest-bad (j + 1) rs i f)
+pub lowest_bad : (j : ℕ) (rs : List Rule) (i f : ℕ) → first_bad j rs ≡ Refused (Bad i f) → LowestBad rs j i f
+unfolding first_bad
+lowest_bad j [] i f e = let z : ◌≡◌ {A = ℕ} 0 1 = cc in absurd (omega arith)
+lowest_bad j (r ∷ rs) i f e = go (eqb (bad_field r) 0) refl e (lowest_bad (j + 1) rs i f)
   where
-    go : (b : Bool) → eqb (badField r) 0 ≡ b → (if b then firstBad (j + 1) rs else Refused (Bad j (badField r))) ≡ Refused (Bad i f)
-        → (firstBad (j + 1) rs ≡ Refused (Bad i f) → LowestBad rs (j + 1) i f) → LowestBad (r ∷ rs) j i f
+    go : (b : Bool) → eqb (bad_field r) 0 ≡ b → (if b then first_bad (j + 1) rs else Refused (Bad j (bad_field r))) ≡ Refused (Bad i f)
+        → (first_bad (j + 1) rs ≡ Refused (Bad i f) → LowestBad rs (j + 1) i f) → LowestBad (r ∷ rs) j i f
     go false z w below =
         let p : j ≡ i = cc in
-        let q : badField r ≡ f = cc in
+        let q : bad_field r ≡ f = cc in
         record {
           before = [];
           bad = r;
@@ -37,7 +37,7 @@ lowest-bad j (r ∷ rs) i f e = go (eqb (badField r) 0) refl e (lowest-bad (j + 
           splits = refl;
           number = omega arith;
           field = q;
-          some = λ (x : f ≡ 0). eqb-false (badField r) 0 z (q ∙ x);
+          some = λ (x : f ≡ 0). eqb-false (bad_field r) 0 z (q ∙ x);
           fine = λ (s : Rule) (m : Memᴰ s []). absurd (Memᴰ.not-nil m);
         }
     go true z w below =
@@ -53,33 +53,33 @@ lowest-bad j (r ∷ rs) i f e = go (eqb (badField r) 0) refl e (lowest-bad (j + 
           fine = λ (s : Rule) (m : Memᴰ s (r ∷ u.before)). each s u.before (u.fine s) (Memᴰ.cases_cons m);
         }
       where
-        each : (s : Rule) (ss : List Rule) → (Memᴰ s ss → badField s ≡ 0) → (s ≡ r) ⊎ Memᴰ s ss → badField s ≡ 0
-        each s ss h (inl x) = ap badField x ∙ eqb-true (badField r) 0 z
+        each : (s : Rule) (ss : List Rule) → (Memᴰ s ss → bad_field s ≡ 0) → (s ≡ r) ⊎ Memᴰ s ss → bad_field s ≡ 0
+        each s ss h (inl x) = ap bad_field x ∙ eqb-true (bad_field r) 0 z
         each s ss h (inr m) = h m
 
 -- the same of the answer to a list of bytes
-pub lowest-tested : (l : List ℕ) (i f : ℕ) → testedRules l ≡ Refused (Bad i f) → LowestBad (allRules l) 0 i f
-lowest-tested l i f e =
+pub lowest_tested : (l : List ℕ) (i f : ℕ) → tested_rules l ≡ Refused (Bad i f) → LowestBad (all_rules l) 0 i f
+lowest_tested l i f e =
     let p =
-    tested-past l
-    (λ (a : testedRules l ≡ Refused Odd). let z : ◌≡◌ {A = ℕ} 0 1 = cc in omega arith)
-    (λ (a : testedRules l ≡ Refused Many). let z : ◌≡◌ {A = ℕ} 0 1 = cc in omega arith) in
-    lowest-bad 0 (allRules l) i f (sym (tested-each l p.0 p.1) ∙ e)
+    tested_past l
+    (λ (a : tested_rules l ≡ Refused Odd). let z : ◌≡◌ {A = ℕ} 0 1 = cc in omega arith)
+    (λ (a : tested_rules l ≡ Refused Many). let z : ◌≡◌ {A = ℕ} 0 1 = cc in omega arith) in
+    lowest_bad 0 (all_rules l) i f (sym (tested_each l p.0 p.1) ∙ e)
 
 -- ---- its field
 
-first-test : (bs : List Bool) (i f : ℕ) → firstTrue i bs ≡ f → (f ≡ 0 → ⊥) → FirstTest bs i f
-unfolding firstTrue
-first-test [] i f e h = absurd (h (omega arith))
-first-test (true ∷ bs) i f e h = record {
+first_test : (bs : List Bool) (i f : ℕ) → first_true i bs ≡ f → (f ≡ 0 → ⊥) → FirstTest bs i f
+unfolding first_true
+first_test [] i f e h = absurd (h (omega arith))
+first_test (true ∷ bs) i f e h = record {
   place = 0;
   number = omega arith;
   within = omega arith;
   holds = refl;
   before = λ (k : ℕ) (l : k < 0). absurd (omega arith);
 }
-first-test (false ∷ bs) i f e h =
-    let u = first-test bs (i + 1) f e h in
+first_test (false ∷ bs) i f e h =
+    let u = first_test bs (i + 1) f e h in
     record {
       place = suc u.place;
       number = omega arith;
@@ -92,6 +92,6 @@ first-test (false ∷ bs) i f e h =
     each p h zero l = refl
     each p h (suc k) l = h k (omega arith)
 
-pub first_field : (r : Rule) (f : ℕ) → badField r ≡ f → (f ≡ 0 → ⊥) → FirstTest (faults r) 1 f
-unfolding badField
-first_field r = first-test (faults r) 1
+pub first_field : (r : Rule) (f : ℕ) → bad_field r ≡ f → (f ≡ 0 → ⊥) → FirstTest (faults r) 1 f
+unfolding bad_field
+first_field r = first_test (faults r) 1

@@ -4,28 +4,28 @@ use mathlib.Core.Bool.{true, false}
 use mathlib.Core.Path.{◌≡◌}
 use Rattle.records.specs.declared.Key.{Key}
 use Rattle.records.specs.declared.Rule.{Rule}
-use Rattle.rules.specs.Meaning.{addrMatch, portMatch, protoMatch, ruleMatch}
+use Rattle.rules.specs.Meaning.{addr_match, port_match, proto_match, rule_match}
 
 module _ (r : Rule) (h : Key) where
-  pub proto-fails : protoMatch r h.proto ≡ false → false ≡ ruleMatch r h
-  unfolding ruleMatch
-  proto-fails a = simp a
+  pub proto_fails : proto_match r h.proto ≡ false → false ≡ rule_match r h
+  unfolding rule_match
+  proto_fails a = simp a
 
-  module _ (proto : protoMatch r h.proto ≡ true) where
-    pub src-fails : addrMatch r.src r.slen h.src ≡ false → false ≡ ruleMatch r h
-    unfolding ruleMatch
-    src-fails a = simp (proto, a)
+  module _ (proto : proto_match r h.proto ≡ true) where
+    pub src_fails : addr_match r.src r.slen h.src ≡ false → false ≡ rule_match r h
+    unfolding rule_match
+    src_fails a = simp (proto, a)
 
-    module _ (src : addrMatch r.src r.slen h.src ≡ true) where
-      pub dst-fails : addrMatch r.dst r.dlen h.dst ≡ false → false ≡ ruleMatch r h
-      unfolding ruleMatch
-      dst-fails a = simp (proto, src, a)
+    module _ (src : addr_match r.src r.slen h.src ≡ true) where
+      pub dst_fails : addr_match r.dst r.dlen h.dst ≡ false → false ≡ rule_match r h
+      unfolding rule_match
+      dst_fails a = simp (proto, src, a)
 
-      module _ (dst : addrMatch r.dst r.dlen h.dst ≡ true) where
-        pub source-fails : portMatch r.slow r.shigh h.sport ≡ false → false ≡ ruleMatch r h
-        unfolding ruleMatch
-        source-fails a = simp (proto, src, dst, a)
+      module _ (dst : addr_match r.dst r.dlen h.dst ≡ true) where
+        pub source_fails : port_match r.slow r.shigh h.sport ≡ false → false ≡ rule_match r h
+        unfolding rule_match
+        source_fails a = simp (proto, src, dst, a)
 
-        pub dest-decides : portMatch r.slow r.shigh h.sport ≡ true → portMatch r.dlow r.dhigh h.dport ≡ ruleMatch r h
-        unfolding ruleMatch
-        dest-decides a = simp (proto, src, dst, a)
+        pub dest_decides : port_match r.slow r.shigh h.sport ≡ true → port_match r.dlow r.dhigh h.dport ≡ rule_match r h
+        unfolding rule_match
+        dest_decides a = simp (proto, src, dst, a)

@@ -9,5 +9,5 @@ module _ (len : ℕ) where
   pub size_is : (1 * 2 ^ (32 - len)) % 2 ^ 64 ≡ 2 ^ (32 - len)
   size_is = shift_is 64 (32 - len) (omega arith)
 
-  pub size-some : 0 < (1 * 2 ^ (32 - len)) % 2 ^ 64
-  size-some = rw size_is (pow_pos (32 - len))
+  pub size_some : 0 < (1 * 2 ^ (32 - len)) % 2 ^ 64
+  size_some = rw size_is (pow_pos (32 - len))

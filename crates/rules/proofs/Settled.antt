@@ -10,8 +10,8 @@ use Rattle.answers.proofs.ReadBack.{back}
 use Rattle.answers.specs.Refusals as refusal
 use Rattle.answers.specs.declared.Answer.{Answer}
 use Rattle.bits.specs.Choice.{if◌then◌else◌}
-use Rattle.rules.specs.Faults.{listFaultAs, testedRules}
-use Rattle.rules.specs.Finding.{finding, foundAs}
+use Rattle.rules.specs.Faults.{list_fault_as, tested_rules}
+use Rattle.rules.specs.Finding.{finding, found_as}
 use Rattle.rules.specs.declared.faults.ListFault.{ListFault}
 use Rattle.rules.specs.declared.faults.ListFault.TheVariants.{Odd, Many, Bad}
 use Rattle.rules.specs.declared.faults.ListTest.{ListTest}
@@ -20,8 +20,8 @@ use Rattle.rules.specs.declared.finding.Found.TheVariants as found
 
 -- ---- reading back
 
-pub listFaultFrom : Answer → ListFault
-listFaultFrom r =
+pub list_fault_from : Answer → ListFault
+list_fault_from r =
     if eqb r.no refusal.odd then Odd
     else if eqb r.no refusal.many then Many
     else Bad r.a r.b
@@ -30,33 +30,33 @@ found_from : Answer → Found
 found_from r =
     if eqb r.no 0 then (if eqb r.a 0 then found.Nothing else found.Rule r.b r.c)
     else if eqb r.no refusal.header then found.Header
-    else found.Refused (listFaultFrom r)
+    else found.Refused (list_fault_from r)
 
-pub fault-back : (f : ListFault) → listFaultFrom (listFaultAs f) ≡ f
-unfolding listFaultFrom
-fault-back Odd = refl
-fault-back Many = refl
-fault-back (Bad i f) = refl
+pub fault_back : (f : ListFault) → list_fault_from (list_fault_as f) ≡ f
+unfolding list_fault_from
+fault_back Odd = refl
+fault_back Many = refl
+fault_back (Bad i f) = refl
 
-found_back : (r : Found) → found_from (foundAs r) ≡ r
+found_back : (r : Found) → found_from (found_as r) ≡ r
 unfolding found_from
 found_back (found.Rule i a) = refl
 found_back found.Nothing = refl
-found_back (found.Refused Odd) = ap found.Refused (fault-back Odd)
-found_back (found.Refused Many) = ap found.Refused (fault-back Many)
-found_back (found.Refused (Bad i f)) = ap found.Refused (fault-back (Bad i f))
+found_back (found.Refused Odd) = ap found.Refused (fault_back Odd)
+found_back (found.Refused Many) = ap found.Refused (fault_back Many)
+found_back (found.Refused (Bad i f)) = ap found.Refused (fault_back (Bad i f))
 found_back found.Header = refl
 
 -- a refusal's number is not that of an answer
-pub fault-some : (f : ListFault) → (listFaultAs f).no ≡ 0 → ⊥
-fault-some Odd e = omega arith
-fault-some Many e = omega arith
-fault-some (Bad i f) e = omega arith
+pub fault_some : (f : ListFault) → (list_fault_as f).no ≡ 0 → ⊥
+fault_some Odd e = omega arith
+fault_some Many e = omega arith
+fault_some (Bad i f) e = omega arith
 
 -- ---- two outcomes
 
-pub one-test : (l : List ℕ) (r s : ListTest) → r ≡ testedRules l → s ≡ testedRules l → r ≡ s
-one-test l r s p q = p ∙ sym q
+pub one_test : (l : List ℕ) (r s : ListTest) → r ≡ tested_rules l → s ≡ tested_rules l → r ≡ s
+one_test l r s p q = p ∙ sym q
 
-pub one-find : (l h : List ℕ) (r s : Found) → foundAs r ≡ finding l h → foundAs s ≡ finding l h → r ≡ s
-one-find l h = back foundAs found_from found_back (finding l h)
+pub one_find : (l h : List ℕ) (r s : Found) → found_as r ≡ finding l h → found_as s ≡ finding l h → r ≡ s
+one_find l h = back found_as found_from found_back (finding l h)

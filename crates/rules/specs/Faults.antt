@@ -5,8 +5,8 @@ use Rattle.answers.specs.Answers.{refused}
 use Rattle.answers.specs.Refusals as refusal
 use Rattle.answers.specs.declared.Answer.{Answer}
 use Rattle.bits.specs.Choice.{if◌then◌else◌}
-use Rattle.records.specs.Layout.{lastAction, ruleLimit, ruleSize}
-use Rattle.records.specs.Rules.{allRules}
+use Rattle.records.specs.Layout.{last_action, rule_limit, rule_size}
+use Rattle.records.specs.Rules.{all_rules}
 use Rattle.records.specs.declared.Rule.{Rule}
 use Rattle.rules.specs.declared.faults.ListFault.{ListFault}
 use Rattle.rules.specs.declared.faults.ListFault.TheVariants.{Odd, Many, Bad}
@@ -32,36 +32,36 @@ faults r =
     ∷ beyond? r.dst r.dlen
     ∷ ltb r.shigh r.slow
     ∷ ltb r.dhigh r.dlow
-    ∷ ltb lastAction r.action
+    ∷ ltb last_action r.action
     ∷ []
 
 -- the number of the first test that holds, the first of them having number i, or 0 where none does
-unfoldable pub firstTrue : ℕ → List Bool → ℕ
-firstTrue i [] = 0
-firstTrue i (b ∷ bs) = if b then i else firstTrue (i + 1) bs
+unfoldable pub first_true : ℕ → List Bool → ℕ
+first_true i [] = 0
+first_true i (b ∷ bs) = if b then i else first_true (i + 1) bs
 
 -- a rule's first bad field, or 0
-unfoldable pub badField : Rule → ℕ
-badField r = firstTrue 1 (faults r)
+unfoldable pub bad_field : Rule → ℕ
+bad_field r = first_true 1 (faults r)
 
 -- the first bad rule, the first rule having number i
-unfoldable pub firstBad : ℕ → List Rule → ListTest
-firstBad i [] = Good
-firstBad i (r ∷ rs) = if eqb (badField r) 0 then firstBad (i + 1) rs else Refused (Bad i (badField r))
+unfoldable pub first_bad : ℕ → List Rule → ListTest
+first_bad i [] = Good
+first_bad i (r ∷ rs) = if eqb (bad_field r) 0 then first_bad (i + 1) rs else Refused (Bad i (bad_field r))
 
-unfoldable pub testedRules : List ℕ → ListTest
-testedRules l =
-    if not (eqb (length l % ruleSize) 0) then Refused Odd
-    else if ltb ruleLimit (length l / ruleSize) then Refused Many
-    else firstBad 0 (allRules l)
+unfoldable pub tested_rules : List ℕ → ListTest
+tested_rules l =
+    if not (eqb (length l % rule_size) 0) then Refused Odd
+    else if ltb rule_limit (length l / rule_size) then Refused Many
+    else first_bad 0 (all_rules l)
 
 -- document 01's number and values for each fault
-abbrev pub listFaultAs : ListFault → Answer
-listFaultAs Odd = refused refusal.odd 0 0
-listFaultAs Many = refused refusal.many 0 0
-listFaultAs (Bad i f) = refused refusal.rule i f
+abbrev pub list_fault_as : ListFault → Answer
+list_fault_as Odd = refused refusal.odd 0 0
+list_fault_as Many = refused refusal.many 0 0
+list_fault_as (Bad i f) = refused refusal.rule i f
 
 -- what is answered where these tests come first
-unfoldable pub behindRules : ListTest → Answer → Answer
-behindRules Good a = a
-behindRules (Refused f) a = listFaultAs f
+unfoldable pub behind_rules : ListTest → Answer → Answer
+behind_rules Good a = a
+behind_rules (Refused f) a = list_fault_as f

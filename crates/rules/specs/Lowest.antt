@@ -2,7 +2,7 @@
 use Rattle.std.specs.Prelude.{Bool, true, false, ◌≡◌, ℕ, ◌+◌, ◌<◌, get_or, length}
 use mathlib.Core.List.{List, ◌∷◌, ◌++◌, Memᴰ}
 use Rattle.records.specs.declared.Rule.{Rule}
-use Rattle.rules.specs.Faults.{badField}
+use Rattle.rules.specs.Faults.{bad_field}
 
 -- of rules that are numbered from j on, number i is the lowest bad one and f its first bad field
 pub record LowestBad (rs : List Rule) (j i f : ℕ) : Type 0 where
@@ -11,9 +11,9 @@ pub record LowestBad (rs : List Rule) (j i f : ℕ) : Type 0 where
   pub after : List Rule
   pub splits : rs ≡ before ++ (bad ∷ after)
   pub number : i ≡ j + length before
-  pub field : badField bad ≡ f
+  pub field : bad_field bad ≡ f
   pub some : f ≡ 0 → ⊥
-  pub fine : (r : Rule) → Memᴰ r before → badField r ≡ 0
+  pub fine : (r : Rule) → Memᴰ r before → bad_field r ≡ 0
 
 -- of tests that are numbered from i on, number f is the first that holds
 pub record FirstTest (bs : List Bool) (i f : ℕ) : Type 0 where

@@ -8,25 +8,25 @@ use Rattle.records.specs.declared.Key.{Key}
 use Rattle.records.specs.declared.Rule.{Rule}
 
 -- flag 1 is any protocol
-abbrev pub protoMatch : Rule → ℕ → Bool
-protoMatch r x = eqb r.flag 1 || eqb x r.proto
+abbrev pub proto_match : Rule → ℕ → Bool
+proto_match r x = eqb r.flag 1 || eqb x r.proto
 
 -- the first len of 32 bits are the same
-abbrev pub addrMatch : ℕ → ℕ → ℕ → Bool
-addrMatch a len x = eqb (x / 2 ^ (32 - len)) (a / 2 ^ (32 - len))
+abbrev pub addr_match : ℕ → ℕ → ℕ → Bool
+addr_match a len x = eqb (x / 2 ^ (32 - len)) (a / 2 ^ (32 - len))
 
-abbrev pub portMatch : ℕ → ℕ → ℕ → Bool
-portMatch low high x = leb low x && leb x high
+abbrev pub port_match : ℕ → ℕ → ℕ → Bool
+port_match low high x = leb low x && leb x high
 
-unfoldable pub ruleMatch : Rule → Key → Bool
-ruleMatch r h =
-    protoMatch r h.proto
-    && (addrMatch r.src r.slen h.src
-    && (addrMatch r.dst r.dlen h.dst
-    && (portMatch r.slow r.shigh h.sport
-    && portMatch r.dlow r.dhigh h.dport)))
+unfoldable pub rule_match : Rule → Key → Bool
+rule_match r h =
+    proto_match r h.proto
+    && (addr_match r.src r.slen h.src
+    && (addr_match r.dst r.dlen h.dst
+    && (port_match r.slow r.shigh h.sport
+    && port_match r.dlow r.dhigh h.dport)))
 
 -- the first rule that matches, the first of the list having number i: 1, its number and its action; or 0 and zeros
-unfoldable pub firstRule : ℕ → List Rule → Key → Answer
-firstRule i [] h = done 0 0 0 0
-firstRule i (r ∷ rs) h = if ruleMatch r h then done 1 i r.action 0 else firstRule (i + 1) rs h
+unfoldable pub first_rule : ℕ → List Rule → Key → Answer
+first_rule i [] h = done 0 0 0 0
+first_rule i (r ∷ rs) h = if rule_match r h then done 1 i r.action 0 else first_rule (i + 1) rs h

@@ -1,6 +1,6 @@
 // The tests of a rule list, lowest number first: 5, 6, and 7 with the lowest bad rule and its first bad field.
 ghost use Rattle.std.specs.Prelude.{◌≡◌, ◌≤◌};
-ghost use Rattle.rules.specs.Faults.{badField, beyond?, spare?, testedRules};
+ghost use Rattle.rules.specs.Faults.{bad_field, beyond?, spare?, tested_rules};
 
 use records::{LAST_ACTION, RULE_LIMIT, RULE_SIZE, Rule};
 
@@ -40,7 +40,7 @@ fn spare(r: Rule) -> bool
 
 // The first bad field of a rule, or 0.
 fn bad_field(r: Rule) -> u8
-    ensures { result ≡ badField r }
+    ensures { result ≡ bad_field r }
 {
     if 1 < r.flag {
         return 1;
@@ -73,7 +73,7 @@ fn bad_field(r: Rule) -> u8
 }
 
 pub fn test_rules(rules: &[u8]) -> ListTest
-    ensures { result ≡ testedRules rules.now }
+    ensures { result ≡ tested_rules rules.now }
 {
     if rules.len() % RULE_SIZE != 0 {
         return ListTest::Refused(ListFault::Odd);

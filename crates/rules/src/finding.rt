@@ -1,9 +1,9 @@
 // Which rule a header finds: the first of the list that matches it in all five fields.
 ghost use Rattle.std.specs.Prelude.{◌≡◌, ◌≤◌};
-ghost use Rattle.records.specs.Rules.{allRules};
-ghost use Rattle.rules.specs.Faults.{testedRules};
-ghost use Rattle.rules.specs.Finding.{finding, findingGood, foundAs};
-ghost use Rattle.rules.specs.Meaning.{addrMatch, firstRule, portMatch, protoMatch, ruleMatch};
+ghost use Rattle.records.specs.Rules.{all_rules};
+ghost use Rattle.rules.specs.Faults.{tested_rules};
+ghost use Rattle.rules.specs.Finding.{finding, finding_good, found_as};
+ghost use Rattle.rules.specs.Meaning.{addr_match, first_rule, port_match, proto_match, rule_match};
 ghost use Rattle.rules.specs.declared.faults.ListTest.TheVariants.{Good};
 
 use crate::faults::{ListFault, ListTest, test_rules};
@@ -20,7 +20,7 @@ pub enum Found {
 }
 
 fn proto_matches(r: Rule, x: u8) -> bool
-    ensures { result ≡ protoMatch r x }
+    ensures { result ≡ proto_match r x }
 {
     if r.flag == 1 {
         return true;
@@ -31,14 +31,14 @@ fn proto_matches(r: Rule, x: u8) -> bool
 // The first len of 32 bits are the same.
 fn addr_matches(a: u32, len: u8, x: u32) -> bool
     requires { len ≤ 32 }
-    ensures { result ≡ addrMatch a len x }
+    ensures { result ≡ addr_match a len x }
 {
     let size = 1u64 << (32 - len);
     (x as u64) / size == (a as u64) / size
 }
 
 fn port_matches(low: u16, high: u16, x: u16) -> bool
-    ensures { result ≡ portMatch low high x }
+    ensures { result ≡ port_match low high x }
 {
     if low <= x {
         return x <= high;
@@ -48,7 +48,7 @@ fn port_matches(low: u16, high: u16, x: u16) -> bool
 
 fn rule_matches(r: Rule, h: Key) -> bool
     requires { (r.slen ≤ 32) × (r.dlen ≤ 32) }
-    ensures { result ≡ ruleMatch r h }
+    ensures { result ≡ rule_match r h }
 {
     if !proto_matches(r, h.proto) {
         return false;
@@ -67,8 +67,8 @@ fn rule_matches(r: Rule, h: Key) -> bool
 
 // Reads a well-formed list from the top.
 fn first_rule(rules: &[u8], h: Key) -> Found
-    requires { testedRules rules.now ≡ Good }
-    ensures { foundAs result ≡ firstRule 0 (allRules rules.now) h }
+    requires { tested_rules rules.now ≡ Good }
+    ensures { found_as result ≡ first_rule 0 (all_rules rules.now) h }
 {
     let n = rules.len() / RULE_SIZE;
     let mut i: usize = 0;
@@ -86,8 +86,8 @@ fn first_rule(rules: &[u8], h: Key) -> Found
 
 // The answer on a well-formed list.
 fn find_good(rules: &[u8], header: &[u8]) -> Found
-    requires { testedRules rules.now ≡ Good }
-    ensures { foundAs result ≡ findingGood rules.now header.now }
+    requires { tested_rules rules.now ≡ Good }
+    ensures { found_as result ≡ finding_good rules.now header.now }
 {
     if header.len() != KEY_SIZE {
         return Found::Header;
@@ -96,7 +96,7 @@ fn find_good(rules: &[u8], header: &[u8]) -> Found
 }
 
 pub fn find_rule(rules: &[u8], header: &[u8]) -> Found
-    ensures { foundAs result ≡ finding rules.now header.now }
+    ensures { found_as result ≡ finding rules.now header.now }
 {
     match test_rules(rules) {
         ListTest::Refused(f) => Found::Refused(f),

@@ -17,33 +17,33 @@ pub record Comparing (s t : List ℕ) (i : ℕ) : Type 0 where
   pub even : length s ≡ length t
   pub rest : same? s t ≡ same? (drop i s) (drop i t)
 
-pub comparing-start : (s t : List ℕ) → length s ≡ length t → Comparing s t 0
-comparing-start s t e = record { within = omega arith; even = e; rest = refl }
+pub comparing_start : (s t : List ℕ) → length s ≡ length t → Comparing s t 0
+comparing_start s t e = record { within = omega arith; even = e; rest = refl }
 
 module _ (s t : List ℕ) (i : ℕ) (f : Comparing s t i) where
-  pub comparing-more : i < length s → get_or s i 0 ≡ get_or t i 0 → Comparing s t (i + 1)
+  pub comparing_more : i < length s → get_or s i 0 ≡ get_or t i 0 → Comparing s t (i + 1)
   unfolding same?
-  comparing-more h n =
+  comparing_more h n =
       let l : i < length t = omega (arith, f.even) in
       let e : same? (drop i s) (drop i t) ≡ same? (drop (suc i) s) (drop (suc i) t) =
       rw (drop-cons s i 0 h, drop-cons t i 0 l, eq-eqb (get_or s i 0) (get_or t i 0) n) in
       record { within = omega arith; even = f.even; rest = rw (add-one i) (f.rest ∙ e) }
 
-  pub comparing-here : i < length s → (get_or s i 0 ≡ get_or t i 0 → ⊥) → same? s t ≡ false
+  pub comparing_here : i < length s → (get_or s i 0 ≡ get_or t i 0 → ⊥) → same? s t ≡ false
   unfolding same?
-  comparing-here h n =
+  comparing_here h n =
       let l : i < length t = omega (arith, f.even) in
       f.rest ∙ rw (drop-cons s i 0 h, drop-cons t i 0 l, ne_eqb (get_or s i 0) (get_or t i 0) n)
 
-  pub comparing-end : length s ≤ i → same? s t ≡ true
+  pub comparing_end : length s ≤ i → same? s t ≡ true
   unfolding same?
-  comparing-end h =
+  comparing_end h =
       let l : length t ≤ i = omega (arith, f.even) in
       f.rest ∙ rw (drop_of_length-le s {i = i} h, drop_of_length-le t {i = i} l)
 
-pub same-even : (s t : List ℕ) → (length s ≡ length t → ⊥) → same? s t ≡ false
+pub same_even : (s t : List ℕ) → (length s ≡ length t → ⊥) → same? s t ≡ false
 unfolding same?
-same-even [] [] n = absurd (n refl)
-same-even [] (y ∷ t) n = refl
-same-even (x ∷ s) [] n = refl
-same-even (x ∷ s) (y ∷ t) n = rw (same-even s t (λ e. n (ap suc e))) (and-false (eqb x y))
+same_even [] [] n = absurd (n refl)
+same_even [] (y ∷ t) n = refl
+same_even (x ∷ s) [] n = refl
+same_even (x ∷ s) (y ∷ t) n = rw (same_even s t (λ e. n (ap suc e))) (and-false (eqb x y))

@@ -9,38 +9,38 @@ use lib.Dec.{eqb, leb}
 use lib.ListN.{length, drop, get_or, drop_of_length-le}
 use lib.Seq.{drop-cons}
 use borrow.Author.Tests.{le-leb, lt-leb, le-ltb, lt-ltb, eq-eqb, ne_eqb}
-use Rattle.sheets.specs.Numbers.{none, numberAfter, number_of}
+use Rattle.sheets.specs.Numbers.{none, number_after, number_of}
 
 -- the digits before i say x
 pub record Said (s : List ℕ) (x i : ℕ) : Type 0 where
   pub within : i ≤ length s
   pub small : x < none
-  pub rest : numberAfter 0 s ≡ numberAfter x (drop i s)
+  pub rest : number_after 0 s ≡ number_after x (drop i s)
 
-pub said-start : (s : List ℕ) → Said s 0 0
-said-start s = record { within = omega arith; small = omega arith; rest = refl }
+pub said_start : (s : List ℕ) → Said s 0 0
+said_start s = record { within = omega arith; small = omega arith; rest = refl }
 
 module _ (s : List ℕ) (x i : ℕ) (f : Said s x i) where
-  pub said-end : length s ≤ i → x ≡ numberAfter 0 s
-  unfolding numberAfter
-  said-end h = sym (f.rest ∙ rw (drop_of_length-le s {i = i} h))
+  pub said_end : length s ≤ i → x ≡ number_after 0 s
+  unfolding number_after
+  said_end h = sym (f.rest ∙ rw (drop_of_length-le s {i = i} h))
 
-  pub said-low : i < length s → get_or s i 0 < 48 → none ≡ numberAfter 0 s
-  unfolding numberAfter
-  said-low h l = sym (f.rest ∙ rw (drop-cons s i 0 h, lt-leb 48 (get_or s i 0) l))
+  pub said_low : i < length s → get_or s i 0 < 48 → none ≡ number_after 0 s
+  unfolding number_after
+  said_low h l = sym (f.rest ∙ rw (drop-cons s i 0 h, lt-leb 48 (get_or s i 0) l))
 
-  pub said-high : i < length s → 57 < get_or s i 0 → none ≡ numberAfter 0 s
-  unfolding numberAfter
-  said-high h l = sym (f.rest ∙ rw (drop-cons s i 0 h, lt-leb (get_or s i 0) 57 l, and-false (leb 48 (get_or s i 0))))
+  pub said_high : i < length s → 57 < get_or s i 0 → none ≡ number_after 0 s
+  unfolding number_after
+  said_high h l = sym (f.rest ∙ rw (drop-cons s i 0 h, lt-leb (get_or s i 0) 57 l, and-false (leb 48 (get_or s i 0))))
 
   module _ (h : i < length s) (l : 48 ≤ get_or s i 0) (m : get_or s i 0 ≤ 57) where
-    pub said-large : none ≤ x * 10 + (get_or s i 0 - 48) → none ≡ numberAfter 0 s
-    unfolding numberAfter
-    said-large n =
+    pub said_large : none ≤ x * 10 + (get_or s i 0 - 48) → none ≡ number_after 0 s
+    unfolding number_after
+    said_large n =
         sym (f.rest ∙ rw (drop-cons s i 0 h, le-leb 48 (get_or s i 0) l, le-leb (get_or s i 0) 57 m, le-ltb (x * 10 + (get_or s i 0 - 48)) none n))
 
     pub said_more : x * 10 + (get_or s i 0 - 48) < none → Said s (x * 10 + (get_or s i 0 - 48)) (i + 1)
-    unfolding numberAfter
+    unfolding number_after
     said_more n = record {
       within = omega arith;
       small = n;
@@ -54,19 +54,19 @@ unfolding number_of
 no_number [] e = refl
 no_number (x ∷ s) e = absurd (omega arith)
 
-pub leading-zero : (s : List ℕ) → (length s ≡ 0 → ⊥) → get_or s 0 0 ≡ 48 → (length s ≡ 1 → ⊥) → none ≡ number_of s
+pub leading_zero : (s : List ℕ) → (length s ≡ 0 → ⊥) → get_or s 0 0 ≡ 48 → (length s ≡ 1 → ⊥) → none ≡ number_of s
 unfolding number_of
-leading-zero [] n e m = absurd (n refl)
-leading-zero (x ∷ s) n e m = rw (eq-eqb x 48 e, ne_eqb (length s) 0 (λ z. m (ap suc z)))
+leading_zero [] n e m = absurd (n refl)
+leading_zero (x ∷ s) n e m = rw (eq-eqb x 48 e, ne_eqb (length s) 0 (λ z. m (ap suc z)))
 
-pub number-zero : (s : List ℕ) → length s ≡ 1 → numberAfter 0 s ≡ number_of s
+pub number_zero : (s : List ℕ) → length s ≡ 1 → number_after 0 s ≡ number_of s
 unfolding number_of
-number-zero [] e = absurd (omega arith)
-number-zero (x ∷ s) e =
+number_zero [] e = absurd (omega arith)
+number_zero (x ∷ s) e =
     let z : length s ≡ 0 = omega arith in
     rw (eq-eqb (length s) 0 z, and-false (eqb x 48))
 
-pub number-other : (s : List ℕ) → (length s ≡ 0 → ⊥) → (get_or s 0 0 ≡ 48 → ⊥) → numberAfter 0 s ≡ number_of s
+pub number_other : (s : List ℕ) → (length s ≡ 0 → ⊥) → (get_or s 0 0 ≡ 48 → ⊥) → number_after 0 s ≡ number_of s
 unfolding number_of
-number-other [] n e = absurd (n refl)
-number-other (x ∷ s) n e = rw (ne_eqb x 48 e)
+number_other [] n e = absurd (n refl)
+number_other (x ∷ s) n e = rw (ne_eqb x 48 e)

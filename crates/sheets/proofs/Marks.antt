@@ -8,7 +8,7 @@ use Prim.Native.Nat.{ℕ, suc, ◌+◌, ◌≤◌, ◌<◌}
 use native.Mathlib.Omega.{arith}
 use lib.Dec.{eqb}
 use borrow.Author.Tests.{eq-eqb, eqb-true, ne_eqb}
-use Rattle.bits.proofs.Orders.{le-or-lt}
+use Rattle.bits.proofs.Orders.{le_or_lt}
 use Rattle.bits.specs.Choice.{if◌then◌else◌}
 use Rattle.fields.specs.Same.{same?}
 use Rattle.sheets.specs.Cuts.{after, before, times}
@@ -16,10 +16,10 @@ use Rattle.sheets.specs.Cuts.{after, before, times}
 module _ (c : ℕ) where
   -- ---- how often it stands there
 
-  pub times-append : (s t : List ℕ) → times c (s ++ t) ≡ times c s + times c t
+  pub times_append : (s t : List ℕ) → times c (s ++ t) ≡ times c s + times c t
   unfolding times
-  times-append [] t = omega arith
-  times-append (x ∷ s) t = go (eqb x c) (times-append s t)
+  times_append [] t = omega arith
+  times_append (x ∷ s) t = go (eqb x c) (times_append s t)
     where
       go : (b : Bool) {k : ℕ} → k ≡ times c s + times c t → (if b then suc k else k) ≡ (if b then suc (times c s) else times c s) + times c t
       go true e = omega arith
@@ -36,31 +36,31 @@ module _ (c : ℕ) where
 
   -- ---- where it stands at a place
 
-  pub before-mark : (s t : List ℕ) → times c s ≡ 0 → before c (s ++ (c ∷ t)) ≡ s
+  pub before_mark : (s t : List ℕ) → times c s ≡ 0 → before c (s ++ (c ∷ t)) ≡ s
   unfolding before
-  before-mark [] t e = rw (eq-eqb c c refl)
-  before-mark (x ∷ s) t e = let w = without x s e in rw (w.0, before-mark s t w.1)
+  before_mark [] t e = rw (eq-eqb c c refl)
+  before_mark (x ∷ s) t e = let w = without x s e in rw (w.0, before_mark s t w.1)
 
-  pub after-mark : (s t : List ℕ) → times c s ≡ 0 → after c (s ++ (c ∷ t)) ≡ t
+  pub after_mark : (s t : List ℕ) → times c s ≡ 0 → after c (s ++ (c ∷ t)) ≡ t
   unfolding after
-  after-mark [] t e = rw (eq-eqb c c refl)
-  after-mark (x ∷ s) t e = let w = without x s e in rw (w.0, after-mark s t w.1)
+  after_mark [] t e = rw (eq-eqb c c refl)
+  after_mark (x ∷ s) t e = let w = without x s e in rw (w.0, after_mark s t w.1)
 
-  pub times-mark : (s t : List ℕ) → times c s ≡ 0 → times c (s ++ (c ∷ t)) ≡ suc (times c t)
+  pub times_mark : (s t : List ℕ) → times c s ≡ 0 → times c (s ++ (c ∷ t)) ≡ suc (times c t)
   unfolding times
-  times-mark s t e = times-append s (c ∷ t) ∙ rw (e, eq-eqb c c refl) (omega arith)
+  times_mark s t e = times_append s (c ∷ t) ∙ rw (e, eq-eqb c c refl) (omega arith)
 
   -- after another mark
-  pub times-past : (s : List ℕ) (d : ℕ) (t : List ℕ) → times c s ≡ 0 → (d ≡ c → ⊥) → times c (s ++ (d ∷ t)) ≡ times c t
+  pub times_past : (s : List ℕ) (d : ℕ) (t : List ℕ) → times c s ≡ 0 → (d ≡ c → ⊥) → times c (s ++ (d ∷ t)) ≡ times c t
   unfolding times
-  times-past s d t e n = times-append s (d ∷ t) ∙ rw (e, ne_eqb d c n) (omega arith)
+  times_past s d t e n = times_append s (d ∷ t) ∙ rw (e, ne_eqb d c n) (omega arith)
 
   -- ---- where it stands nowhere
 
-  pub before-none : (s : List ℕ) → times c s ≡ 0 → before c s ≡ s
+  pub before_none : (s : List ℕ) → times c s ≡ 0 → before c s ≡ s
   unfolding before
-  before-none [] e = refl
-  before-none (x ∷ s) e = let w = without x s e in rw (w.0, before-none s w.1)
+  before_none [] e = refl
+  before_none (x ∷ s) e = let w = without x s e in rw (w.0, before_none s w.1)
 
   pub after_none : (s : List ℕ) → times c s ≡ 0 → after c s ≡ []
   unfolding after
@@ -88,12 +88,12 @@ module _ (c : ℕ) where
       go true z l r = ap (λ (y : ℕ). y ∷ s) (eqb-true x c z)
       go false z l r = ap (λ (t : List ℕ). x ∷ t) (r l)
 
-  pub times-after : (s : List ℕ) → 0 < times c s → times c s ≡ suc (times c (after c s))
-  times-after s h = ap (times c) (parted s h) ∙ times-mark (before c s) (after c s) (none_before s)
+  pub times_after : (s : List ℕ) → 0 < times c s → times c s ≡ suc (times c (after c s))
+  times_after s h = ap (times c) (parted s h) ∙ times_mark (before c s) (after c s) (none_before s)
 
   -- it stands in a text that has something behind it
-  pub parted-some : (s : List ℕ) → (after c s ≡ [] → ⊥) → s ≡ before c s ++ (c ∷ after c s)
-  parted-some s h = go (le-or-lt (times c s) 0)
+  pub parted_some : (s : List ℕ) → (after c s ≡ [] → ⊥) → s ≡ before c s ++ (c ∷ after c s)
+  parted_some s h = go (le_or_lt (times c s) 0)
     where
       go : (times c s ≤ 0) ⊎ (0 < times c s) → s ≡ before c s ++ (c ∷ after c s)
       go (inl a) = absurd (h (after_none s (omega arith)))

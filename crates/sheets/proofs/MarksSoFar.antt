@@ -15,24 +15,24 @@ pub record Counting (c : ℕ) (s : List ℕ) (i k : ℕ) : Type 0 where
   pub few : k ≤ i
   pub all : k + times c (drop i s) ≡ times c s
 
-pub counting-start : (c : ℕ) (s : List ℕ) → Counting c s 0 0
-counting-start c s = record { within = omega arith; few = omega arith; all = omega arith }
+pub counting_start : (c : ℕ) (s : List ℕ) → Counting c s 0 0
+counting_start c s = record { within = omega arith; few = omega arith; all = omega arith }
 
 module _ (c : ℕ) (s : List ℕ) (i k : ℕ) (f : Counting c s i k) where
-  pub counting-one : i < length s → get_or s i 0 ≡ c → Counting c s (i + 1) (k + 1)
+  pub counting_one : i < length s → get_or s i 0 ≡ c → Counting c s (i + 1) (k + 1)
   unfolding times
-  counting-one h n =
+  counting_one h n =
       let e : times c (drop i s) ≡ suc (times c (drop (suc i) s)) = rw (drop-cons s i 0 h, eq-eqb (get_or s i 0) c n) in
       record { within = omega arith; few = omega (arith, f.few); all = rw (add-one i) (omega (arith, f.all)) }
 
-  pub counting-other : i < length s → (get_or s i 0 ≡ c → ⊥) → Counting c s (i + 1) k
+  pub counting_other : i < length s → (get_or s i 0 ≡ c → ⊥) → Counting c s (i + 1) k
   unfolding times
-  counting-other h n =
+  counting_other h n =
       let e : times c (drop i s) ≡ times c (drop (suc i) s) = rw (drop-cons s i 0 h, ne_eqb (get_or s i 0) c n) in
       record { within = omega arith; few = omega (arith, f.few); all = rw (add-one i) (omega (arith, f.all)) }
 
-  pub counting-end : length s ≤ i → k ≡ times c s
+  pub counting_end : length s ≤ i → k ≡ times c s
   unfolding times
-  counting-end h =
+  counting_end h =
       let e : times c (drop i s) ≡ 0 = rw (drop_of_length-le s {i = i} h) in
       omega (arith, f.all)

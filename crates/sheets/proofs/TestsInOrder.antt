@@ -17,13 +17,13 @@ unfoldable pub tested : ℕ → List Bool → Rule → Row
 tested i [] r = Good r
 tested i (b ∷ bs) r = if b then Bad i else tested (i + 1) bs r
 
-pub tested-bad : (i : ℕ) (tests : List Bool) (r : Rule) (k : ℕ) → tested i tests r ≡ Bad k → FirstTest tests i k
+pub tested_bad : (i : ℕ) (tests : List Bool) (r : Rule) (k : ℕ) → tested i tests r ≡ Bad k → FirstTest tests i k
 unfolding tested
-tested-bad i [] r k e = let z : ◌≡◌ {A = ℕ} 0 1 = cc in absurd (omega arith)
-tested-bad i (true ∷ bs) r k e =
+tested_bad i [] r k e = let z : ◌≡◌ {A = ℕ} 0 1 = cc in absurd (omega arith)
+tested_bad i (true ∷ bs) r k e =
     let same : i ≡ k = cc in
     record { place = 0; number = omega arith; within = omega arith; holds = refl; before = λ (j : ℕ) (h : j < 0). absurd (omega arith) }
-tested-bad i (false ∷ bs) r k e = go (tested-bad (i + 1) bs r k e)
+tested_bad i (false ∷ bs) r k e = go (tested_bad (i + 1) bs r k e)
   where
     go : FirstTest bs (i + 1) k → FirstTest (false ∷ bs) i k
     go f = record { place = suc f.place; number = omega arith; within = omega arith; holds = f.holds; before = early }
@@ -32,11 +32,11 @@ tested-bad i (false ∷ bs) r k e = go (tested-bad (i + 1) bs r k e)
         early zero h = refl
         early (suc j) h = f.before j (omega arith)
 
-pub tested-good : (i : ℕ) (tests : List Bool) (q r : Rule) → tested i tests q ≡ Good r → (q ≡ r) × ((j : ℕ) → get_or tests j false ≡ false)
+pub tested_good : (i : ℕ) (tests : List Bool) (q r : Rule) → tested i tests q ≡ Good r → (q ≡ r) × ((j : ℕ) → get_or tests j false ≡ false)
 unfolding tested
-tested-good i [] q r e = (cc, λ j. refl)
-tested-good i (true ∷ bs) q r e = let z : ◌≡◌ {A = ℕ} 0 1 = cc in absurd (omega arith)
-tested-good i (false ∷ bs) q r e = let u = tested-good (i + 1) bs q r e in (u.0, each u.1)
+tested_good i [] q r e = (cc, λ j. refl)
+tested_good i (true ∷ bs) q r e = let z : ◌≡◌ {A = ℕ} 0 1 = cc in absurd (omega arith)
+tested_good i (false ∷ bs) q r e = let u = tested_good (i + 1) bs q r e in (u.0, each u.1)
   where
     each : ((j : ℕ) → get_or bs j false ≡ false) → (j : ℕ) → get_or (false ∷ bs) j false ≡ false
     each h zero = refl

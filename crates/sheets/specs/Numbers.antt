@@ -10,14 +10,14 @@ abbrev pub digit? : ℕ → Bool
 digit? c = leb 48 c && leb c 57
 
 -- the number said by more digits after x
-unfoldable pub numberAfter : ℕ → List ℕ → ℕ
-numberAfter x [] = x
-numberAfter x (c ∷ s) =
+unfoldable pub number_after : ℕ → List ℕ → ℕ
+number_after x [] = x
+number_after x (c ∷ s) =
     let y = x * 10 + (c - 48) in
-    let rest = numberAfter y s in
+    let rest = number_after y s in
     if digit? c && ltb y none then rest else none
 
 -- the number that a text says: none where it is empty, or begins with a 0 that is not alone
 unfoldable pub number_of : List ℕ → ℕ
 number_of [] = none
-number_of (c ∷ s) = if eqb c 48 && not (eqb (length s) 0) then none else numberAfter 0 (c ∷ s)
+number_of (c ∷ s) = if eqb c 48 && not (eqb (length s) 0) then none else number_after 0 (c ∷ s)

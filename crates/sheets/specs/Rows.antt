@@ -1,10 +1,10 @@
 -- A line of a sheet, without its line feed: the rule that it says, or its first bad field.
 use Rattle.std.specs.Prelude.{not, List, ℕ, ◌/◌, ◌%◌, eqb, ltb}
 use Rattle.bits.specs.Choice.{if◌then◌else◌}
-use Rattle.records.specs.Layout.{lastAction}
+use Rattle.records.specs.Layout.{last_action}
 use Rattle.records.specs.declared.Rule.{Rule}
 use Rattle.sheets.specs.Cuts.{after, before, times}
-use Rattle.sheets.specs.Parts.{actionOf, address_of, any, portsOf, protocolOf}
+use Rattle.sheets.specs.Parts.{action_of, address_of, any, ports_of, protocol_of}
 use Rattle.sheets.specs.declared.parts.Address.{Address}
 use Rattle.sheets.specs.declared.parts.Ports.{Ports}
 use Rattle.sheets.specs.declared.rows.Row.{Row}
@@ -13,8 +13,8 @@ use Rattle.texts.specs.Lines.{tab}
 
 -- The rule of six good fields. A protocol is 0 .. 255 or `any`, which is 256: so its quotient by `any` is the flag of a rule
 -- record, and its remainder the protocol, which is 0 under the flag.
-abbrev pub ruleOf : ℕ → Address → Address → Ports → Ports → ℕ → Rule
-ruleOf p src dst sports dports act = record {
+abbrev pub rule_of : ℕ → Address → Address → Ports → Ports → ℕ → Rule
+rule_of p src dst sports dports act = record {
   flag = p / any;
   proto = p % any;
   src = src.bits;
@@ -29,15 +29,15 @@ ruleOf p src dst sports dports act = record {
 }
 
 -- the rule of six fields, or the first that is bad
-unfoldable pub rowFrom : ℕ → Address → Address → Ports → Ports → ℕ → Row
-rowFrom p src dst sports dports act =
+unfoldable pub row_from : ℕ → Address → Address → Ports → Ports → ℕ → Row
+row_from p src dst sports dports act =
     if ltb any p then Bad 1
     else if not src.good then Bad 2
     else if not dst.good then Bad 3
     else if not sports.good then Bad 4
     else if not dports.good then Bad 5
-    else if ltb lastAction act then Bad 6
-    else Good (ruleOf p src dst sports dports act)
+    else if ltb last_action act then Bad 6
+    else Good (rule_of p src dst sports dports act)
 
 -- what f makes of the six fields of a line
 abbrev pub of_fields : {A : Type 0} → (ℕ → Address → Address → Ports → Ports → ℕ → A) → List ℕ → A
@@ -47,8 +47,8 @@ of_fields f s =
     let s4 = after tab s3 in
     let s5 = after tab s4 in
     let s6 = after tab s5 in
-    f (protocolOf (before tab s)) (address_of (before tab s2)) (address_of (before tab s3)) (portsOf (before tab s4)) (portsOf (before tab s5)) (actionOf s6)
+    f (protocol_of (before tab s)) (address_of (before tab s2)) (address_of (before tab s3)) (ports_of (before tab s4)) (ports_of (before tab s5)) (action_of s6)
 
 -- six fields, parted by five tabs
 unfoldable pub row_of : List ℕ → Row
-row_of s = if not (eqb (times tab s) 5) then Bad 0 else of_fields rowFrom s
+row_of s = if not (eqb (times tab s) 5) then Bad 0 else of_fields row_from s

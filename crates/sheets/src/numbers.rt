@@ -1,13 +1,13 @@
 // Decimal numbers of at most 16 bits.
 ghost use Rattle.std.specs.Prelude.{◌≡◌};
-ghost use Rattle.sheets.specs.Numbers.{numberAfter, number_of};
+ghost use Rattle.sheets.specs.Numbers.{number_after, number_of};
 
 // What is answered where there is no number.
 pub const NONE: u32 = 65536;
 
 // The number that digits say.
 fn digits(s: &[u8]) -> u32
-    ensures { result ≡ numberAfter 0 s.now }
+    ensures { result ≡ number_after 0 s.now }
 {
     let mut x: u32 = 0;
     let mut i: usize = 0;

@@ -33,7 +33,7 @@ pub struct Ports {
 }
 
 pub fn read_protocol(s: &[u8]) -> u32
-    ensures { result ≡ spec.protocolOf s.now }
+    ensures { result ≡ spec.protocol_of s.now }
 {
     if same(s, b"*") {
         return ANY;
@@ -46,7 +46,7 @@ pub fn read_protocol(s: &[u8]) -> u32
 }
 
 fn bad_address() -> Address
-    ensures { result ≡ spec.badAddress }
+    ensures { result ≡ spec.bad_address }
 {
     Address {
         good: false,
@@ -132,7 +132,7 @@ fn pair(low: u32, high: u32) -> Ports
 }
 
 pub fn read_ports(s: &[u8]) -> Ports
-    ensures { result ≡ spec.portsOf s.now }
+    ensures { result ≡ spec.ports_of s.now }
 {
     let c = cut(s, DASH);
     let e = c.end;
@@ -141,7 +141,7 @@ pub fn read_ports(s: &[u8]) -> Ports
 }
 
 pub fn read_action(s: &[u8]) -> u8
-    ensures { result ≡ spec.actionOf s.now }
+    ensures { result ≡ spec.action_of s.now }
 {
     if same(s, b"permit") {
         return 0;

@@ -1,8 +1,8 @@
 // Reading a sheet into lent memory. The rules are held until every line is known to be good and the memory to be large
 // enough, so that a refused call changes nothing and the text is gone through once.
 ghost use Rattle.std.specs.Prelude.{◌≡◌, ◌*◌, ◌≤◌, length};
-ghost use Rattle.records.specs.Layout.{ruleLimit, ruleSize};
-ghost use Rattle.sheets.specs.Reading.{ReadRows, Reading, many?, readAs};
+ghost use Rattle.records.specs.Layout.{rule_limit, rule_size};
+ghost use Rattle.sheets.specs.Reading.{ReadRows, Reading, many?, read_as};
 
 use crate::cuts::cut;
 use crate::rows::{Row, Rows, read_row};
@@ -42,7 +42,7 @@ fn many(text: &[u8]) -> bool
 
 // Reads the lines of a text, writes the rule of each into held, and stops at the first that is bad.
 fn read_rows(text: &[u8], held: &mut [u8]) -> Rows
-    requires { ruleSize * ruleLimit ≤ length held.old }
+    requires { rule_size * rule_limit ≤ length held.old }
     ensures { ReadRows text.now held.old result held.new }
 {
     let mut i: u32 = 0;
@@ -75,7 +75,7 @@ fn read_rows(text: &[u8], held: &mut [u8]) -> Rows
 }
 
 pub fn read(text: &[u8], rules: &mut [u8]) -> Sheet
-    ensures { Reading text.now rules.old (readAs result) rules.new }
+    ensures { Reading text.now rules.old (read_as result) rules.new }
 {
     if SHEET_LIMIT < text.len() {
         return Sheet::Long;

@@ -1,6 +1,6 @@
 // A line of a sheet.
 ghost use Rattle.std.specs.Prelude.{◌≡◌};
-ghost use Rattle.sheets.specs.Rows.{rowFrom, row_of};
+ghost use Rattle.sheets.specs.Rows.{row_from, row_of};
 
 use crate::cuts::{count, cut};
 use crate::parts::{ANY, Address, Ports, read_action, read_address, read_ports, read_protocol};
@@ -24,7 +24,7 @@ pub enum Rows {
 }
 
 fn row_from(p: u32, src: Address, dst: Address, sports: Ports, dports: Ports, act: u8) -> Row
-    ensures { result ≡ rowFrom p src dst sports dports act }
+    ensures { result ≡ row_from p src dst sports dports act }
 {
     if ANY < p {
         return Row::Bad(1);

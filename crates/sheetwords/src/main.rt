@@ -1,9 +1,9 @@
 // Reads a rule sheet on standard input and prints the words of its rules, one a line, and then how many there are; or why the
 // sheet is refused (document 02, order 1). What is read, compiled and written as text is the library's work.
 ghost use Rattle.std.specs.Prelude.{◌*◌, ◌-◌, ◌≤◌, length};
-ghost use Rattle.records.specs.Layout.{recordSize, wordLimit};
+ghost use Rattle.records.specs.Layout.{record_size, word_limit};
 ghost use Rattle.sheetwords.specs.Pieces.{piece_size};
-ghost use Rattle.texts.specs.Lines.{lineSize};
+ghost use Rattle.texts.specs.Lines.{line_size};
 
 use answers::Answer;
 use libc::{STDIN_FILENO, STDOUT_FILENO};
@@ -43,7 +43,7 @@ fn counted(k: u32) {
 // Writes what is gathered where another line might not fit behind it; the place for that line.
 fn placed(out: &[u8], at: usize) -> usize
     requires { at ≤ length out.now }
-    ensures { result ≤ piece_size - lineSize }
+    ensures { result ≤ piece_size - line_size }
 {
     if PIECE - LINE_SIZE < at {
         text(&out[..at]);
@@ -54,7 +54,7 @@ fn placed(out: &[u8], at: usize) -> usize
 
 // The lines of the table's first k records, gathered into large pieces.
 fn print_words(table: &[u8], k: u32)
-    requires { (k ≤ wordLimit) × (recordSize * wordLimit ≤ length table.now) }
+    requires { (k ≤ word_limit) × (record_size * word_limit ≤ length table.now) }
 {
     let mut out = [0u8; PIECE];
     let mut at: usize = 0;

@@ -15,10 +15,10 @@ unfolding any
 any_append f [] ys = refl
 any_append f (x ∷ xs) ys = ap (λ (b : Bool). f x || b) (any_append f xs ys) ∙ sym (or_assoc (f x) (any f xs) (any f ys))
 
-once-append : {A : Type 0} (f : A → Bool) (xs ys : List A) → AtMostOne f xs → AtMostOne f ys → (any f xs ≡ true → any f ys ≡ true → ⊥) → AtMostOne f (xs ++ ys)
+once_append : {A : Type 0} (f : A → Bool) (xs ys : List A) → AtMostOne f xs → AtMostOne f ys → (any f xs ≡ true → any f ys ≡ true → ⊥) → AtMostOne f (xs ++ ys)
 unfolding any
-once-append f [] ys a b k = b
-once-append f (x ∷ xs) ys a b k = (alone, once-append f xs ys a.1 b (λ p q. k (rw p (or-true (f x))) q))
+once_append f [] ys a b k = b
+once_append f (x ∷ xs) ys a b k = (alone, once_append f xs ys a.1 b (λ p q. k (rw p (or-true (f x))) q))
   where
     alone : f x ≡ true → any f (xs ++ ys) ≡ true → ⊥
     alone p e = go (or_cases (any f xs) (any f ys) (sym (any_append f xs ys) ∙ e))
@@ -40,30 +40,30 @@ one_passes f x = record { some = or-false (f x); once = ((λ p q. false≢true q
 
 -- what f says of a member's list is c of what t says of the member, where c is false of false
 module _ {A B : Type 0} (f : B → Bool) (t : A → Bool) (c : Bool → Bool) (strict : c false ≡ false) where
-  true-in : (a : Bool) → c a ≡ true → a ≡ true
-  true-in true e = refl
-  true-in false e = absurd (false≢true (sym strict ∙ e))
+  true_in : (a : Bool) → c a ≡ true → a ≡ true
+  true_in true e = refl
+  true_in false e = absurd (false≢true (sym strict ∙ e))
 
-  or-through : (a b : Bool) → c a || c b ≡ c (a || b)
-  or-through false b = ap (λ (y : Bool). y || c b) strict
-  or-through true true = or_self (c true)
-  or-through true false = ap (λ (y : Bool). c true || y) strict ∙ or-false (c true)
+  or_through : (a b : Bool) → c a || c b ≡ c (a || b)
+  or_through false b = ap (λ (y : Bool). y || c b) strict
+  or_through true true = or_self (c true)
+  or_through true false = ap (λ (y : Bool). c true || y) strict ∙ or-false (c true)
 
   module _ (g : A → List B) (of : (x : A) → Passes f (g x) (c (t x))) where
-    any-each : (xs : List A) → any f (each xs g) ≡ c (any t xs)
+    any_each : (xs : List A) → any f (each xs g) ≡ c (any t xs)
     unfolding any each
-    any-each [] = sym strict
-    any-each (x ∷ xs) = any_append f (g x) (each xs g) ∙ ap₂ (λ (a b : Bool). a || b) (of x).some (any-each xs) ∙ or-through (t x) (any t xs)
+    any_each [] = sym strict
+    any_each (x ∷ xs) = any_append f (g x) (each xs g) ∙ ap₂ (λ (a b : Bool). a || b) (of x).some (any_each xs) ∙ or_through (t x) (any t xs)
 
-    once-each : (xs : List A) → AtMostOne t xs → AtMostOne f (each xs g)
+    once_each : (xs : List A) → AtMostOne t xs → AtMostOne f (each xs g)
     unfolding each
-    once-each [] a = tt
-    once-each (x ∷ xs) a =
-        once-append f (g x) (each xs g) (of x).once (once-each xs a.1)
-        (λ p q. a.0 (true-in (t x) (sym (of x).some ∙ p)) (true-in (any t xs) (sym (any-each xs) ∙ q)))
+    once_each [] a = tt
+    once_each (x ∷ xs) a =
+        once_append f (g x) (each xs g) (of x).once (once_each xs a.1)
+        (λ p q. a.0 (true_in (t x) (sym (of x).some ∙ p)) (true_in (any t xs) (sym (any_each xs) ∙ q)))
 
-    pub each-passes : {xs : List A} {b : Bool} → Passes t xs b → Passes f (each xs g) (c b)
-    each-passes {xs} p = record { some = any-each xs ∙ ap c p.some; once = once-each xs p.once }
+    pub each_passes : {xs : List A} {b : Bool} → Passes t xs b → Passes f (each xs g) (c b)
+    each_passes {xs} p = record { some = any_each xs ∙ ap c p.some; once = once_each xs p.once }
 
   module _ (g : A → B) (of : (x : A) → f (g x) ≡ c (t x)) where
     each_map : (xs : List A) → map g xs ≡ each xs (λ (x : A). g x ∷ [])
@@ -71,5 +71,5 @@ module _ {A B : Type 0} (f : B → Bool) (t : A → Bool) (c : Bool → Bool) (s
     each_map [] = refl
     each_map (x ∷ xs) = ap (λ (l : List B). g x ∷ l) (each_map xs)
 
-    pub map-passes : {xs : List A} {b : Bool} → Passes t xs b → Passes f (map g xs) (c b)
-    map-passes {xs} p = rw each_map (each-passes (λ (x : A). g x ∷ []) (λ (x : A). rw (← of x) (one_passes f (g x))) p)
+    pub map_passes : {xs : List A} {b : Bool} → Passes t xs b → Passes f (map g xs) (c b)
+    map_passes {xs} p = rw each_map (each_passes (λ (x : A). g x ∷ []) (λ (x : A). rw (← of x) (one_passes f (g x))) p)

@@ -5,73 +5,73 @@ use Prim.Native.Nat.{ℕ, ◌+◌, ◌-◌, ◌*◌, ◌≤◌, ◌<◌}
 use native.Mathlib.Omega.{arith}
 use lib.ListN.{drop, length, length-drop, length-take, take}
 use borrow.Rule.Slice.PartMut.{put_mid}
-use Rattle.entries.proofs.Left.{Left, left_end, left-more, left-room, left-start}
-use Rattle.entries.proofs.Spans.{entries-cons, length-entries}
-use Rattle.entries.specs.Words.{entriesOf, needed, ruleEntries}
+use Rattle.entries.proofs.Left.{Left, left_end, left_more, left_room, left_start}
+use Rattle.entries.proofs.Spans.{entries_cons, length_entries}
+use Rattle.entries.specs.Words.{entries_of, needed, rule_entries}
 use Rattle.entries.specs.Words as words
 use Rattle.entries.specs.Written.{Wrote}
-use Rattle.fields.proofs.Writing.{write-part}
-use Rattle.fields.specs.Writes.{writeAt}
-use Rattle.records.proofs.Reading.{rulesFrom, rules-none, rules-start, rules-turn}
-use Rattle.records.specs.Entries.{Entry, tableBytes}
-use Rattle.records.specs.Layout.{recordSize, ruleSize}
-use Rattle.records.specs.Rules.{rulesOf}
+use Rattle.fields.proofs.Writing.{write_part}
+use Rattle.fields.specs.Writes.{write_at}
+use Rattle.records.proofs.Reading.{rules_from, rules_none, rules_start, rules_turn}
+use Rattle.records.specs.Entries.{Entry, table_bytes}
+use Rattle.records.specs.Layout.{record_size, rule_size}
+use Rattle.records.specs.Rules.{rules_of}
 use Rattle.records.specs.declared.Rule.{Rule}
 use Rattle.rules.proofs.Going.{Going, ReadAs, going_fine, going_more, going_start}
-use Rattle.rules.specs.Faults.{firstBad}
+use Rattle.rules.specs.Faults.{first_bad}
 use Rattle.rules.specs.declared.faults.ListTest.TheVariants.{Good}
 use Rattle.tables.proofs.Totals.{writable}
 
 -- what a callee wrote at the start of the part from at on, said of the whole
-wrote-part : (t part : List ℕ) (at x : ℕ) (es : List Entry) → at ≤ length t → Wrote (take (length t - at) (drop at t)) part 0 es x
-    → put_mid at (length t - at) t part ≡ writeAt t at (tableBytes es)
-wrote-part t part at x es h w = ap (put_mid at (length t - at) t) w.is ∙ write-part t at (tableBytes es) h
+wrote_part : (t part : List ℕ) (at x : ℕ) (es : List Entry) → at ≤ length t → Wrote (take (length t - at) (drop at t)) part 0 es x
+    → put_mid at (length t - at) t part ≡ write_at t at (table_bytes es)
+wrote_part t part at x es h w = ap (put_mid at (length t - at) t) w.is ∙ write_part t at (table_bytes es) h
 
 -- room in the whole is room in the part from at on
-pub lent-room : (t : List ℕ) (at k : ℕ) → at + k ≤ length t → k ≤ length (take (length t - at) (drop at t))
-lent-room t at k h = simp (length-take, length-drop) (omega arith)
+pub lent_room : (t : List ℕ) (at k : ℕ) → at + k ≤ length t → k ≤ length (take (length t - at) (drop at t))
+lent_room t at k h = simp (length-take, length-drop) (omega arith)
 
 -- the records of the first i rules are written; the i-th rule starts at from, and its records go to at
 pub record Filling (l : List ℕ) (n : ℕ) (before now : List ℕ) (i from at : ℕ) : Type 0 where
   pub on : Going l n i from
-  pub left : Left before 0 (entriesOf 0 (rulesOf n l)) now at (entriesOf i (rulesFrom l n i from))
+  pub left : Left before 0 (entries_of 0 (rules_of n l)) now at (entries_of i (rules_from l n i from))
 
 module _ (l : List ℕ) (n : ℕ) (before : List ℕ) where
-  pub filling-start : firstBad 0 (rulesOf n l) ≡ Good → recordSize * needed (rulesOf n l) ≤ length before → Filling l n before before 0 0 0
-  filling-start g h = record {
+  pub filling_start : first_bad 0 (rules_of n l) ≡ Good → record_size * needed (rules_of n l) ≤ length before → Filling l n before before 0 0 0
+  filling_start g h = record {
     on = going_start l n g;
-    left = rw (rules-start l n) (left-start before 0 (entriesOf 0 (rulesOf n l)) (omega (arith, length-entries 0 (rulesOf n l))));
+    left = rw (rules_start l n) (left_start before 0 (entries_of 0 (rules_of n l)) (omega (arith, length_entries 0 (rules_of n l))));
   }
 
   module _ (now : List ℕ) (i from at : ℕ) (f : Filling l n before now i from at) where
-    pub filling-in : at ≤ length now
-    filling-in = omega (arith, f.left.count, f.left.room, f.left.same)
+    pub filling_in : at ≤ length now
+    filling_in = omega (arith, f.left.count, f.left.room, f.left.same)
 
     module _ (h : i < n) (r : Rule) (e : ReadAs l from r) where
-      next-left : Left before 0 (entriesOf 0 (rulesOf n l)) now at (ruleEntries i r ++ entriesOf (i + 1) (rulesFrom l n (i + 1) (from + ruleSize)))
-      next-left =
-          subst (λ (es : List Entry). Left before 0 (entriesOf 0 (rulesOf n l)) now at es)
-          (ap (entriesOf i) (rules-turn l n i from r h e) ∙ entries-cons i r (rulesFrom l n (i + 1) (from + ruleSize))) f.left
+      next_left : Left before 0 (entries_of 0 (rules_of n l)) now at (rule_entries i r ++ entries_of (i + 1) (rules_from l n (i + 1) (from + rule_size)))
+      next_left =
+          subst (λ (es : List Entry). Left before 0 (entries_of 0 (rules_of n l)) now at es)
+          (ap (entries_of i) (rules_turn l n i from r h e) ∙ entries_cons i r (rules_from l n (i + 1) (from + rule_size))) f.left
 
-      pub filling-fine : words.Good r
-      filling-fine = writable r (going_fine l n i from f.on h r e)
+      pub filling_fine : words.Good r
+      filling_fine = writable r (going_fine l n i from f.on h r e)
 
-      pub filling-room : at + recordSize * length (ruleEntries i r) ≤ length now
-      filling-room =
-          left-room before 0 (entriesOf 0 (rulesOf n l)) now at (ruleEntries i r) (entriesOf (i + 1) (rulesFrom l n (i + 1) (from + ruleSize))) next-left
+      pub filling_room : at + record_size * length (rule_entries i r) ≤ length now
+      filling_room =
+          left_room before 0 (entries_of 0 (rules_of n l)) now at (rule_entries i r) (entries_of (i + 1) (rules_from l n (i + 1) (from + rule_size))) next_left
 
-      pub filling-more : (part : List ℕ) (x : ℕ) → Wrote (take (length now - at) (drop at now)) part 0 (ruleEntries i r) x
-          → Filling l n before (put_mid at (length now - at) now part) (i + 1) (from + ruleSize) (at + x)
-      filling-more part x w =
-          let y = wrote-part now part at x (ruleEntries i r) filling-in w in
-          let z : at + x ≡ at + recordSize * length (ruleEntries i r) = omega (arith, w.free) in
+      pub filling_more : (part : List ℕ) (x : ℕ) → Wrote (take (length now - at) (drop at now)) part 0 (rule_entries i r) x
+          → Filling l n before (put_mid at (length now - at) now part) (i + 1) (from + rule_size) (at + x)
+      filling_more part x w =
+          let y = wrote_part now part at x (rule_entries i r) filling_in w in
+          let z : at + x ≡ at + record_size * length (rule_entries i r) = omega (arith, w.free) in
           record {
             on = going_more l n i from f.on h r e;
-            left = left-more before 0 (entriesOf 0 (rulesOf n l)) now (put_mid at (length now - at) now part) at (at + x) (ruleEntries i r)
-                (entriesOf (i + 1) (rulesFrom l n (i + 1) (from + ruleSize))) next-left y z;
+            left = left_more before 0 (entries_of 0 (rules_of n l)) now (put_mid at (length now - at) now part) at (at + x) (rule_entries i r)
+                (entries_of (i + 1) (rules_from l n (i + 1) (from + rule_size))) next_left y z;
           }
 
-    pub filling-end : n ≤ i → now ≡ writeAt before 0 (tableBytes (entriesOf 0 (rulesOf n l)))
-    unfolding entriesOf
-    filling-end h =
-        (left_end before 0 (entriesOf 0 (rulesOf n l)) now at (entriesOf i (rulesFrom l n i from)) (ap (entriesOf i) (rules-none l n i from h)) f.left).is
+    pub filling_end : n ≤ i → now ≡ write_at before 0 (table_bytes (entries_of 0 (rules_of n l)))
+    unfolding entries_of
+    filling_end h =
+        (left_end before 0 (entries_of 0 (rules_of n l)) now at (entries_of i (rules_from l n i from)) (ap (entries_of i) (rules_none l n i from h)) f.left).is

@@ -4,30 +4,30 @@ use mathlib.Core.Path.{◌≡◌, refl}
 use Prim.Native.Nat.{ℕ, ◌≤◌, ◌<◌}
 use lib.ListN.{length}
 use borrow.Author.Tests.{le-ltb, lt-ltb, ne_eqb}
-use Rattle.answers.proofs.Lending.{lent-done, lent-refused}
-use Rattle.entries.specs.Words.{entriesOf, needed}
-use Rattle.fields.specs.Writes.{writeAt}
-use Rattle.records.specs.Entries.{tableBytes}
-use Rattle.records.specs.Layout.{roomOf}
-use Rattle.records.specs.Rules.{allRules}
-use Rattle.rules.proofs.Settled.{fault-some}
-use Rattle.rules.specs.Faults.{behindRules, listFaultAs, testedRules}
+use Rattle.answers.proofs.Lending.{lent_done, lent_refused}
+use Rattle.entries.specs.Words.{entries_of, needed}
+use Rattle.fields.specs.Writes.{write_at}
+use Rattle.records.specs.Entries.{table_bytes}
+use Rattle.records.specs.Layout.{room_of}
+use Rattle.records.specs.Rules.{all_rules}
+use Rattle.rules.proofs.Settled.{fault_some}
+use Rattle.rules.specs.Faults.{behind_rules, list_fault_as, tested_rules}
 use Rattle.rules.specs.declared.faults.ListFault.{ListFault}
 use Rattle.rules.specs.declared.faults.ListTest.{ListTest}
 use Rattle.rules.specs.declared.faults.ListTest.TheVariants as test
-use Rattle.tables.specs.Compiling.{Compiling, compiledAs, compiling}
+use Rattle.tables.specs.Compiling.{Compiling, compiled_as, compiling}
 use Rattle.tables.specs.declared.compiling.Compiled.TheVariants.{Words, Refused, Space}
 
 module _ (l before : List ℕ) where
-  pub compiling-refused : {r : ListTest} (f : ListFault) → r ≡ testedRules l → r ≡ test.Refused f → Compiling l before (compiledAs (Refused f)) before
-  unfolding compiling behindRules
-  compiling-refused f e g = lent-refused (simp (← e, g)) (ne_eqb (listFaultAs f).no 0 (fault-some f))
+  pub compiling_refused : {r : ListTest} (f : ListFault) → r ≡ tested_rules l → r ≡ test.Refused f → Compiling l before (compiled_as (Refused f)) before
+  unfolding compiling behind_rules
+  compiling_refused f e g = lent_refused (simp (← e, g)) (ne_eqb (list_fault_as f).no 0 (fault_some f))
 
-  module _ (good : testedRules l ≡ test.Good) (k : ℕ) (ek : k ≡ needed (allRules l)) where
-    pub compiling-space : roomOf (length before) < k → Compiling l before (compiledAs (Space k)) before
-    unfolding compiling behindRules
-    compiling-space h = lent-refused (simp (good, ← ek, lt-ltb (roomOf (length before)) k h)) refl
+  module _ (good : tested_rules l ≡ test.Good) (k : ℕ) (ek : k ≡ needed (all_rules l)) where
+    pub compiling_space : room_of (length before) < k → Compiling l before (compiled_as (Space k)) before
+    unfolding compiling behind_rules
+    compiling_space h = lent_refused (simp (good, ← ek, lt-ltb (room_of (length before)) k h)) refl
 
-    pub compiling-words : k ≤ roomOf (length before) → (t : List ℕ) → t ≡ writeAt before 0 (tableBytes (entriesOf 0 (allRules l))) → Compiling l before (compiledAs (Words k)) t
-    unfolding compiling behindRules
-    compiling-words h = lent-done (simp (good, ← ek, le-ltb (roomOf (length before)) k h)) refl
+    pub compiling_words : k ≤ room_of (length before) → (t : List ℕ) → t ≡ write_at before 0 (table_bytes (entries_of 0 (all_rules l))) → Compiling l before (compiled_as (Words k)) t
+    unfolding compiling behind_rules
+    compiling_words h = lent_done (simp (good, ← ek, le-ltb (room_of (length before)) k h)) refl

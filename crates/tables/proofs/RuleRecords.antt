@@ -6,48 +6,48 @@ use mathlib.Core.Path.{◌≡◌, refl, subst}
 use Prim.Native.Nat.{ℕ}
 use lib.Bits.{bit_and}
 use borrow.Author.Tests.{eq-eqb}
-use Rattle.blocks.proofs.Agreement.{formed-and}
+use Rattle.blocks.proofs.Agreement.{formed_and}
 use Rattle.blocks.specs.Words.{AllFormed}
 use Rattle.blocks.specs.declared.Word.{Word}
-use Rattle.entries.specs.Words.{destWords, each, entryWith, protoWords, ruleEntries, sourceWords}
+use Rattle.entries.specs.Words.{dest_words, each, entry_with, proto_words, rule_entries, source_words}
 use Rattle.records.specs.Entries.{Entry}
 use Rattle.records.specs.declared.Rule.{Rule}
-use Rattle.tables.specs.Meaning.{Sound, entryMatches, keyMatch}
-use Rattle.tables.proofs.FieldWords.{addr-own, hit, proto-own, words-formed}
+use Rattle.tables.specs.Meaning.{Sound, entry_matches, key_match}
+use Rattle.tables.proofs.FieldWords.{addr_own, hit, proto_own, words_formed}
 
 -- the record is one of rule number i; a word is well formed when it matches its own value
 pub record Of (i : ℕ) (r : Rule) (e : Entry) : Type 0 where
   pub rule : e.rule ≡ i
   pub action : e.action ≡ r.action
-  pub formed : entryMatches e.value e ≡ true
+  pub formed : entry_matches e.value e ≡ true
 
-of-each : {A B : Type 0} (g : A → List B) (xs : List A) {b : B} → Memᴰ b (each xs g) → (x : A) × Memᴰ x xs × Memᴰ b (g x)
+of_each : {A B : Type 0} (g : A → List B) (xs : List A) {b : B} → Memᴰ b (each xs g) → (x : A) × Memᴰ x xs × Memᴰ b (g x)
 unfolding each
-of-each g [] m = absurd (mathlib.Core.List.Memᴰ.not-nil m)
-of-each g (x ∷ xs) {b} m =
+of_each g [] m = absurd (mathlib.Core.List.Memᴰ.not-nil m)
+of_each g (x ∷ xs) {b} m =
     ⊎_elim (λ (n : Memᴰ b (g x)). (x, mathlib.Core.List.Memᴰ.head refl, n))
-    (λ (n : Memᴰ b (each xs g)). let s = of-each g xs n in (s.0, mathlib.Core.List.Memᴰ.tail s.1, s.2)) (mathlib.Core.List.Memᴰ.append_cases (g x) m)
+    (λ (n : Memᴰ b (each xs g)). let s = of_each g xs n in (s.0, mathlib.Core.List.Memᴰ.tail s.1, s.2)) (mathlib.Core.List.Memᴰ.append_cases (g x) m)
 
-word-own : (n : ℕ) (ws : List Word) → AllFormed n ws → (w : Word) → Memᴰ w ws → hit w.value w ≡ true
-word-own n ws f w m = eq-eqb (bit_and w.value w.mask) w.value (formed-and n w (f w m))
+word_own : (n : ℕ) (ws : List Word) → AllFormed n ws → (w : Word) → Memᴰ w ws → hit w.value w ≡ true
+word_own n ws f w m = eq-eqb (bit_and w.value w.mask) w.value (formed_and n w (f w m))
 
 module _ (i : ℕ) (r : Rule) (z : Sound r) where
-  made_of : (p s d : Word) → Memᴰ p (protoWords r) → Memᴰ s (sourceWords r) → Memᴰ d (destWords r) → Of i r (entryWith r i p s d)
-  unfolding keyMatch protoWords
+  made_of : (p s d : Word) → Memᴰ p (proto_words r) → Memᴰ s (source_words r) → Memᴰ d (dest_words r) → Of i r (entry_with r i p s d)
+  unfolding key_match proto_words
   made_of p s d mp ms md =
-      let ep : hit p.value p ≡ true = rw (mathlib.Core.List.Memᴰ.eq_of_singleton mp) (proto-own r z.fits.proto) in
-      let es = word-own 16 (sourceWords r) (words-formed 16 r.slow r.shigh z.fits.shigh) s ms in
-      let ed = word-own 16 (destWords r) (words-formed 16 r.dlow r.dhigh z.fits.dhigh) d md in
+      let ep : hit p.value p ≡ true = rw (mathlib.Core.List.Memᴰ.eq_of_singleton mp) (proto_own r z.fits.proto) in
+      let es = word_own 16 (source_words r) (words_formed 16 r.slow r.shigh z.fits.shigh) s ms in
+      let ed = word_own 16 (dest_words r) (words_formed 16 r.dlow r.dhigh z.fits.dhigh) d md in
       record {
         rule = refl;
         action = refl;
-        formed = rw (ep, addr-own r.src r.slen z.src z.fits.src, addr-own r.dst r.dlen z.dst z.fits.dst, es, ed);
+        formed = rw (ep, addr_own r.src r.slen z.src z.fits.src, addr_own r.dst r.dlen z.dst z.fits.dst, es, ed);
       }
 
-  pub rule-records : (e : Entry) → Memᴰ e (ruleEntries i r) → Of i r e
-  unfolding ruleEntries
-  rule-records e m =
-      let a = of-each (λ (p : Word). each (sourceWords r) (λ (s : Word). map (entryWith r i p s) (destWords r))) (protoWords r) m in
-      let b = of-each (λ (s : Word). map (entryWith r i a.0 s) (destWords r)) (sourceWords r) a.2 in
-      let c = mathlib.Core.List.Memᴰ.of_map (entryWith r i a.0 b.0) (destWords r) b.2 in
+  pub rule_records : (e : Entry) → Memᴰ e (rule_entries i r) → Of i r e
+  unfolding rule_entries
+  rule_records e m =
+      let a = of_each (λ (p : Word). each (source_words r) (λ (s : Word). map (entry_with r i p s) (dest_words r))) (proto_words r) m in
+      let b = of_each (λ (s : Word). map (entry_with r i a.0 s) (dest_words r)) (source_words r) a.2 in
+      let c = mathlib.Core.List.Memᴰ.of_map (entry_with r i a.0 b.0) (dest_words r) b.2 in
       subst (Of i r) c.2 (made_of a.0 b.0 c.0 a.1 b.1 c.1)

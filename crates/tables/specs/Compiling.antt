@@ -5,32 +5,32 @@ use Rattle.answers.specs.Lent.{Lent}
 use Rattle.answers.specs.Refusals as refusal
 use Rattle.answers.specs.declared.Answer.{Answer}
 use Rattle.bits.specs.Choice.{if◌then◌else◌}
-use Rattle.entries.specs.Words.{entriesOf, needed}
-use Rattle.records.specs.Entries.{tableBytes}
-use Rattle.records.specs.Layout.{roomOf}
-use Rattle.records.specs.Rules.{allRules}
-use Rattle.rules.specs.Faults.{behindRules, listFaultAs, testedRules}
+use Rattle.entries.specs.Words.{entries_of, needed}
+use Rattle.records.specs.Entries.{table_bytes}
+use Rattle.records.specs.Layout.{room_of}
+use Rattle.records.specs.Rules.{all_rules}
+use Rattle.rules.specs.Faults.{behind_rules, list_fault_as, tested_rules}
 use Rattle.rules.specs.declared.faults.ListTest.TheVariants.{Good}
 use Rattle.tables.specs.declared.compiling.Compiled.{Compiled}
 use Rattle.tables.specs.declared.compiling.Compiled.TheVariants.{Words, Refused, Space}
 
 -- document 01's number and values for each answer
-abbrev pub compiledAs : Compiled → Answer
-compiledAs (Words k) = done k 0 0 0
-compiledAs (Refused f) = listFaultAs f
-compiledAs (Space k) = refused refusal.space k 0
+abbrev pub compiled_as : Compiled → Answer
+compiled_as (Words k) = done k 0 0 0
+compiled_as (Refused f) = list_fault_as f
+compiled_as (Space k) = refused refusal.space k 0
 
 -- the answer where the table lent has so many bytes
 unfoldable pub compiling : List ℕ → ℕ → Answer
 compiling l bytes =
-    let k = needed (allRules l) in
-    behindRules (testedRules l) (if ltb (roomOf bytes) k then refused refusal.space k 0 else done k 0 0 0)
+    let k = needed (all_rules l) in
+    behind_rules (tested_rules l) (if ltb (room_of bytes) k then refused refusal.space k 0 else done k 0 0 0)
 
 -- the promise of `compile`: what is answered, and the records at the start of the table lent
 abbrev pub Compiling : List ℕ → List ℕ → Answer → List ℕ → Type 0
-Compiling l before = Lent (compiling l (length before)) (tableBytes (entriesOf 0 (allRules l))) before
+Compiling l before = Lent (compiling l (length before)) (table_bytes (entries_of 0 (all_rules l))) before
 
 -- what a list has that was compiled into so many bytes: it is well formed, and there is room for its words
 pub record Taken (l : List ℕ) (bytes : ℕ) : Type 0 where
-  pub good : testedRules l ≡ Good
-  pub room : needed (allRules l) ≤ roomOf bytes
+  pub good : tested_rules l ≡ Good
+  pub room : needed (all_rules l) ≤ room_of bytes

@@ -5,7 +5,7 @@ use Rattle.answers.specs.declared.Answer.{Answer}
 use Rattle.blocks.specs.Tests.{matches?}
 use Rattle.blocks.specs.Words.{word}
 use Rattle.records.specs.Entries.{Entry}
-use Rattle.records.specs.Layout.{lastAction}
+use Rattle.records.specs.Layout.{last_action}
 use Rattle.records.specs.Rules.{RuleFits}
 use Rattle.records.specs.declared.Key.{Key}
 use Rattle.records.specs.declared.Rule.{Rule}
@@ -17,7 +17,7 @@ pub record Sound (r : Rule) : Type 0 where
   pub fits : RuleFits r
   pub src : r.src % 2 ^ (32 - r.slen) ≡ 0
   pub dst : r.dst % 2 ^ (32 - r.dlen) ≡ 0
-  pub action : r.action ≤ lastAction
+  pub action : r.action ≤ last_action
 
 abbrev pub AllSound : List Rule → Type 0
 AllSound [] = Unit {0}
@@ -26,8 +26,8 @@ AllSound (r ∷ rs) = Sound r × AllSound rs
 -- ---- what a record matches
 
 -- a value and a mask match a header, field by field
-unfoldable pub keyMatch : Key → Key → Key → Bool
-keyMatch v m h =
+unfoldable pub key_match : Key → Key → Key → Bool
+key_match v m h =
     matches? (word v.proto m.proto) h.proto
     && (matches? (word v.src m.src) h.src
     && (matches? (word v.dst m.dst) h.dst
@@ -35,8 +35,8 @@ keyMatch v m h =
     && matches? (word v.dport m.dport) h.dport)))
 
 -- the record's word matches the header
-abbrev pub entryMatches : Key → Entry → Bool
-entryMatches h e = keyMatch e.value e.mask h
+abbrev pub entry_matches : Key → Entry → Bool
+entry_matches h e = key_match e.value e.mask h
 
 -- some member of the list passes the test
 unfoldable pub any : {A : Type 0} → (A → Bool) → List A → Bool

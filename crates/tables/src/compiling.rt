@@ -1,13 +1,13 @@
 // Compiling a rule list into a lent table. The words are counted first, and written only where they fit.
 ghost use Rattle.std.specs.Prelude.{◌≡◌, ◌*◌, ◌≤◌, length};
-ghost use Rattle.entries.specs.Words.{entriesOf, needed};
-ghost use Rattle.fields.specs.Writes.{writeAt};
-ghost use Rattle.records.specs.Entries.{tableBytes};
-ghost use Rattle.records.specs.Layout.{recordSize, roomOf};
-ghost use Rattle.records.specs.Rules.{allRules};
-ghost use Rattle.rules.specs.Faults.{testedRules};
+ghost use Rattle.entries.specs.Words.{entries_of, needed};
+ghost use Rattle.fields.specs.Writes.{write_at};
+ghost use Rattle.records.specs.Entries.{table_bytes};
+ghost use Rattle.records.specs.Layout.{record_size, room_of};
+ghost use Rattle.records.specs.Rules.{all_rules};
+ghost use Rattle.rules.specs.Faults.{tested_rules};
 ghost use Rattle.rules.specs.declared.faults.ListTest.TheVariants as test;
-ghost use Rattle.tables.specs.Compiling.{Compiling, compiledAs};
+ghost use Rattle.tables.specs.Compiling.{Compiling, compiled_as};
 
 use records::{RECORD_SIZE, RULE_SIZE, WORD_LIMIT};
 use rules::{ListFault, ListTest};
@@ -22,8 +22,8 @@ pub enum Compiled {
 
 // How many words a well-formed list needs.
 fn total(rules: &[u8]) -> u32
-    requires { testedRules rules.now ≡ test.Good }
-    ensures { result ≡ needed (allRules rules.now) }
+    requires { tested_rules rules.now ≡ test.Good }
+    ensures { result ≡ needed (all_rules rules.now) }
 {
     let n = rules.len() / RULE_SIZE;
     let mut i: usize = 0;
@@ -39,9 +39,9 @@ fn total(rules: &[u8]) -> u32
 
 // Writes the records of all rules of a well-formed list, each rule's on from the first free record.
 fn fill(rules: &[u8], table: &mut [u8])
-    requires rules_value { testedRules rules.now ≡ test.Good }
-    requires rules_in_bounds { recordSize * needed (allRules rules.now) ≤ length table.old }
-    ensures { table.new ≡ writeAt table.old 0 (tableBytes (entriesOf 0 (allRules rules.now))) }
+    requires rules_value { tested_rules rules.now ≡ test.Good }
+    requires rules_in_bounds { record_size * needed (all_rules rules.now) ≤ length table.old }
+    ensures { table.new ≡ write_at table.old 0 (table_bytes (entries_of 0 (all_rules rules.now))) }
 {
     let n = rules.len() / RULE_SIZE;
     let mut i: usize = 0;
@@ -57,7 +57,7 @@ fn fill(rules: &[u8], table: &mut [u8])
 
 // How many records a table of so many bytes has room for.
 pub fn room(bytes: usize) -> usize
-    ensures { result ≡ roomOf bytes }
+    ensures { result ≡ room_of bytes }
 {
     let k = bytes / RECORD_SIZE;
     if k < WORD_LIMIT {
@@ -68,8 +68,8 @@ pub fn room(bytes: usize) -> usize
 
 // Compiles a well-formed list, where there is room.
 fn compile_good(rules: &[u8], table: &mut [u8]) -> Compiled
-    requires { testedRules rules.now ≡ test.Good }
-    ensures { Compiling rules.now table.old (compiledAs result) table.new }
+    requires { tested_rules rules.now ≡ test.Good }
+    ensures { Compiling rules.now table.old (compiled_as result) table.new }
 {
     let k = total(rules);
     if room(table.len()) < k as usize {
@@ -80,7 +80,7 @@ fn compile_good(rules: &[u8], table: &mut [u8]) -> Compiled
 }
 
 pub fn compile(rules: &[u8], table: &mut [u8]) -> Compiled
-    ensures { Compiling rules.now table.old (compiledAs result) table.new }
+    ensures { Compiling rules.now table.old (compiled_as result) table.new }
 {
     match rules::test_rules(rules) {
         ListTest::Refused(f) => Compiled::Refused(f),

@@ -1,8 +1,8 @@
 // Which record of a table a header finds: the earliest that matches, whatever the length of its prefixes.
 ghost use Rattle.std.specs.Prelude.{◌&&◌, ◌≡◌, ◌≤◌, eqb, length};
 ghost use Rattle.std.specs.Int.Bits.{bit_and};
-ghost use Rattle.records.specs.Layout.{keySize, recordSize};
-ghost use Rattle.tables.specs.Looking.{Fit, firstIll, firstRecord, foundAs, looking, lookingFormed, recordFormed?, recordMatches?};
+ghost use Rattle.records.specs.Layout.{key_size, record_size};
+ghost use Rattle.tables.specs.Looking.{Fit, first_ill, first_record, found_as, looking, looking_formed, record_formed?, record_matches?};
 
 use crate::compiling::room;
 use answers::Lowest;
@@ -31,9 +31,9 @@ fn differing(d: u8, x: u8, mask: u8, value: u8) -> u8
 
 // The record at the start of t matches the header.
 fn matches_record(t: &[u8], h: &[u8]) -> bool
-    requires record_size_in_bounds { recordSize ≤ length t.now }
-    requires h_len { length h.now ≡ keySize }
-    ensures { result ≡ recordMatches? t.now h.now }
+    requires record_size_in_bounds { record_size ≤ length t.now }
+    requires h_len { length h.now ≡ key_size }
+    ensures { result ≡ record_matches? t.now h.now }
 {
     let mut d: u8 = 0;
     let mut j: usize = 0;
@@ -46,8 +46,8 @@ fn matches_record(t: &[u8], h: &[u8]) -> bool
 
 // The record at the start of t is well formed: it matches its own value, and its action is known.
 fn formed_record(t: &[u8]) -> bool
-    requires { recordSize ≤ length t.now }
-    ensures { result ≡ recordFormed? t.now }
+    requires { record_size ≤ length t.now }
+    ensures { result ≡ record_formed? t.now }
 {
     if matches_record(t, &t[..KEY_SIZE]) {
         return t[ACTION_AT] <= LAST_ACTION;
@@ -58,7 +58,7 @@ fn formed_record(t: &[u8]) -> bool
 // The lowest index of an ill-formed record among the first k.
 fn first_ill(table: &[u8], k: usize) -> Lowest
     requires { Fit k table.now }
-    ensures { result ≡ firstIll k 0 table.now }
+    ensures { result ≡ first_ill k 0 table.now }
 {
     let mut i: usize = 0;
     let mut at: usize = 0;
@@ -82,8 +82,8 @@ fn wide(x: u8) -> u32
 // The first of the k records that matches.
 fn first_record(table: &[u8], k: usize, h: &[u8]) -> Found
     requires fit { Fit k table.now }
-    requires h_len { length h.now ≡ keySize }
-    ensures { foundAs result ≡ firstRecord k 0 table.now h.now }
+    requires h_len { length h.now ≡ key_size }
+    ensures { found_as result ≡ first_record k 0 table.now h.now }
 {
     let mut i: usize = 0;
     let mut at: usize = 0;
@@ -104,7 +104,7 @@ fn first_record(table: &[u8], k: usize, h: &[u8]) -> Found
 // The answer where all counted records are well formed.
 fn find_formed(table: &[u8], k: usize, header: &[u8]) -> Found
     requires { Fit k table.now }
-    ensures { foundAs result ≡ lookingFormed table.now k header.now }
+    ensures { found_as result ≡ looking_formed table.now k header.now }
 {
     if header.len() != KEY_SIZE {
         return Found::Header;
@@ -113,7 +113,7 @@ fn find_formed(table: &[u8], k: usize, header: &[u8]) -> Found
 }
 
 pub fn find_word(table: &[u8], k: usize, header: &[u8]) -> Found
-    ensures { foundAs result ≡ looking table.now k header.now }
+    ensures { found_as result ≡ looking table.now k header.now }
 {
     if room(table.len()) < k {
         return Found::Stated;

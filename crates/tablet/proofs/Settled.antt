@@ -14,37 +14,37 @@ use Rattle.rules.specs.Finding.{finding}
 use Rattle.sheets.specs.Reading.{Reading}
 use Rattle.tables.specs.Compiling.{Compiling}
 use Rattle.tables.specs.Looking.{looking}
-use Rattle.tablet.specs.Faces.{in32, stepFace}
+use Rattle.tablet.specs.Faces.{in32, step_face}
 use Rattle.tablet.specs.declared.steps.Step.{Step}
 use Rattle.tablet.specs.declared.steps.Walk.{Walk}
 
-pub one-close : (n : ℕ) (a b : ℤ) (r s : Answer) → r ≡ closing n a b → s ≡ closing n a b → r ≡ s
-one-close n a b r s p q = p ∙ sym q
+pub one_close : (n : ℕ) (a b : ℤ) (r s : Answer) → r ≡ closing n a b → s ≡ closing n a b → r ≡ s
+one_close n a b r s p q = p ∙ sym q
 
-pub one-count : (n low high : ℕ) (r s : Answer) → r ≡ counting n low high → s ≡ counting n low high → r ≡ s
-one-count n low high r s p q = p ∙ sym q
+pub one_count : (n low high : ℕ) (r s : Answer) → r ≡ counting n low high → s ≡ counting n low high → r ≡ s
+one_count n low high r s p q = p ∙ sym q
 
 pub one_list : (n low high : ℕ) (before : List ℕ) (r s : Answer) (x y : List ℕ)
     → Listing n low high before r x → Listing n low high before s y → (r ≡ s) × (x ≡ y)
 one_list n low high before = one_lent
 
-pub one-step : (w : Walk) (r s : Step) → r ≡ stepFace w → s ≡ stepFace w → r ≡ s
-one-step w r s p q = p ∙ sym q
+pub one_step : (w : Walk) (r s : Step) → r ≡ step_face w → s ≡ step_face w → r ≡ s
+one_step w r s p q = p ∙ sym q
 
-pub one-check : (n low high : ℕ) (l : List ℕ) (k : ℕ) (r s : Answer)
+pub one_check : (n low high : ℕ) (l : List ℕ) (k : ℕ) (r s : Answer)
     → r ≡ in32 (checking n low high l k) → s ≡ in32 (checking n low high l k) → r ≡ s
-one-check n low high l k r s p q = p ∙ sym q
+one_check n low high l k r s p q = p ∙ sym q
 
-pub one-compile : (l before : List ℕ) (r s : Answer) (x y : List ℕ)
+pub one_compile : (l before : List ℕ) (r s : Answer) (x y : List ℕ)
     → Compiling l before r x → Compiling l before s y → (r ≡ s) × (x ≡ y)
-one-compile l before = one_lent
+one_compile l before = one_lent
 
-pub one-rule : (l h : List ℕ) (r s : Answer) → r ≡ finding l h → s ≡ finding l h → r ≡ s
-one-rule l h r s p q = p ∙ sym q
+pub one_rule : (l h : List ℕ) (r s : Answer) → r ≡ finding l h → s ≡ finding l h → r ≡ s
+one_rule l h r s p q = p ∙ sym q
 
 pub one_word : (t : List ℕ) (k : ℕ) (h : List ℕ) (r s : Answer) → r ≡ looking t k h → s ≡ looking t k h → r ≡ s
 one_word t k h r s p q = p ∙ sym q
 
-pub one-read : (t before : List ℕ) (r s : Answer) (x y : List ℕ)
+pub one_read : (t before : List ℕ) (r s : Answer) (x y : List ℕ)
     → Reading t before r x → Reading t before s y → (r ≡ s) × (x ≡ y)
-one-read t before = one_lent
+one_read t before = one_lent

@@ -12,24 +12,24 @@ abbrev pub in32 : Answer → Answer
 in32 r = record { no = r.no; a = r.a % 2 ^ 32; b = r.b; c = r.c; d = r.d }
 
 -- a walk as it is handed in: any number but 0 means ended
-abbrev pub handedIn : Walk → inner.Walk
-handedIn w = record { width = w.width; next = w.next; last = w.last; ended = not (eqb w.ended 0) }
+abbrev pub handed_in : Walk → inner.Walk
+handed_in w = record { width = w.width; next = w.next; last = w.last; ended = not (eqb w.ended 0) }
 
 abbrev pub flag : Bool → ℕ
 flag b = if b then 1 else 0
 
-abbrev pub handedOut : inner.Walk → Walk
-handedOut w = record { width = w.width; next = w.next; last = w.last; ended = flag w.ended }
+abbrev pub handed_out : inner.Walk → Walk
+handed_out w = record { width = w.width; next = w.next; last = w.last; ended = flag w.ended }
 
 -- the step, with the walk that was handed in where no word was given
-abbrev pub faceOf : Walk → Stepped → Step
-faceOf w s = record {
+abbrev pub face_of : Walk → Stepped → Step
+face_of w s = record {
   no = s.no;
   given = s.given;
   value = s.word.value;
   mask = s.word.mask;
-  walk = if eqb s.given 0 then w else handedOut s.walk;
+  walk = if eqb s.given 0 then w else handed_out s.walk;
 }
 
-unfoldable pub stepFace : Walk → Step
-stepFace w = faceOf w (stepping (handedIn w))
+unfoldable pub step_face : Walk → Step
+step_face w = face_of w (stepping (handed_in w))

@@ -1,14 +1,14 @@
 // From each call's answer to document 01's number and values.
 ghost use Rattle.std.specs.Prelude.{◌≡◌, ◌%◌, ◌^◌};
 ghost use Rattle.answers.specs.Answers.{done, refused};
-ghost use Rattle.intervals.specs.Bounds.{closedAs};
-ghost use Rattle.intervals.specs.Checks.{checkedAs};
+ghost use Rattle.intervals.specs.Bounds.{closed_as};
+ghost use Rattle.intervals.specs.Checks.{checked_as};
 ghost use Rattle.intervals.specs.Ends.{number_of};
-ghost use Rattle.intervals.specs.Lists.{countedAs, listedAs};
-ghost use Rattle.rules.specs.Faults.{listFaultAs};
+ghost use Rattle.intervals.specs.Lists.{counted_as, listed_as};
+ghost use Rattle.rules.specs.Faults.{list_fault_as};
 ghost use Rattle.rules.specs.Finding as rule;
-ghost use Rattle.sheets.specs.Reading.{readAs};
-ghost use Rattle.tables.specs.Compiling.{compiledAs};
+ghost use Rattle.sheets.specs.Reading.{read_as};
+ghost use Rattle.tables.specs.Compiling.{compiled_as};
 ghost use Rattle.tables.specs.Looking as word;
 ghost use Rattle.tablet.specs.Faces.{in32};
 
@@ -47,7 +47,7 @@ pub fn fault_number(f: Fault) -> u32
 }
 
 fn list_fault(f: ListFault) -> Answer
-    ensures { result ≡ listFaultAs f }
+    ensures { result ≡ list_fault_as f }
 {
     match f {
         ListFault::Odd => refused_with(answers::ODD, 0, 0),
@@ -57,7 +57,7 @@ fn list_fault(f: ListFault) -> Answer
 }
 
 pub fn closed(c: Closed) -> Answer
-    ensures { result ≡ closedAs c }
+    ensures { result ≡ closed_as c }
 {
     match c {
         Closed::Range { low, high } => done_with(low, high, 0, 0),
@@ -66,7 +66,7 @@ pub fn closed(c: Closed) -> Answer
 }
 
 pub fn counted(c: Counted) -> Answer
-    ensures { result ≡ countedAs c }
+    ensures { result ≡ counted_as c }
 {
     match c {
         Counted::Words(k) => done_with(k, 0, 0, 0),
@@ -75,7 +75,7 @@ pub fn counted(c: Counted) -> Answer
 }
 
 pub fn listed(l: Listed) -> Answer
-    ensures { result ≡ listedAs l }
+    ensures { result ≡ listed_as l }
 {
     match l {
         Listed::Words(k) => done_with(k, 0, 0, 0),
@@ -92,7 +92,7 @@ fn low32(x: usize) -> u32
 }
 
 pub fn checked(c: Checked) -> Answer
-    ensures { result ≡ in32 (checkedAs c) }
+    ensures { result ≡ in32 (checked_as c) }
 {
     match c {
         Checked::Yes => done_with(1, 0, 0, 0),
@@ -104,7 +104,7 @@ pub fn checked(c: Checked) -> Answer
 }
 
 pub fn compiled(c: Compiled) -> Answer
-    ensures { result ≡ compiledAs c }
+    ensures { result ≡ compiled_as c }
 {
     match c {
         Compiled::Words(k) => done_with(k, 0, 0, 0),
@@ -114,7 +114,7 @@ pub fn compiled(c: Compiled) -> Answer
 }
 
 pub fn found_rule(f: rules::Found) -> Answer
-    ensures { result ≡ rule.foundAs f }
+    ensures { result ≡ rule.found_as f }
 {
     match f {
         rules::Found::Rule(i, action) => done_with(1, i, action as u32, 0),
@@ -125,7 +125,7 @@ pub fn found_rule(f: rules::Found) -> Answer
 }
 
 pub fn found_word(f: tables::Found) -> Answer
-    ensures { result ≡ word.foundAs f }
+    ensures { result ≡ word.found_as f }
 {
     match f {
         tables::Found::Record {
@@ -141,7 +141,7 @@ pub fn found_word(f: tables::Found) -> Answer
 }
 
 pub fn sheet(s: Sheet) -> Answer
-    ensures { result ≡ readAs s }
+    ensures { result ≡ read_as s }
 {
     match s {
         Sheet::Long => refused_with(answers::LONG, 0, 0),

@@ -11,7 +11,7 @@ ghost use Rattle.rules.specs.Finding.{finding};
 ghost use Rattle.sheets.specs.Reading.{Reading};
 ghost use Rattle.tables.specs.Compiling.{Compiling};
 ghost use Rattle.tables.specs.Looking.{looking};
-ghost use Rattle.tablet.specs.Faces.{in32, stepFace};
+ghost use Rattle.tablet.specs.Faces.{in32, step_face};
 
 use answers::Answer;
 pub use steps::{Step, Walk};
@@ -39,7 +39,7 @@ pub extern "C" fn ashkavorz_list(width: u32, low: u32, high: u32, out: &mut [u16
 
 #[unsafe(no_mangle)]
 pub extern "C" fn ashkavorz_step(walk: Walk) -> Step
-    ensures { result ≡ stepFace walk }
+    ensures { result ≡ step_face walk }
 {
     steps::stepped(walk, steps::walk_in(walk).step())
 }

@@ -1,7 +1,7 @@
 // A walk and its step at the C face, where `ended` is a number: 0 not ended, anything else ended.
 ghost use Rattle.std.specs.Prelude.{◌≡◌};
-ghost use Rattle.intervals.specs.Walks.{steppedAs};
-ghost use Rattle.tablet.specs.Faces.{faceOf, handedIn, handedOut};
+ghost use Rattle.intervals.specs.Walks.{stepped_as};
+ghost use Rattle.tablet.specs.Faces.{face_of, handed_in, handed_out};
 
 use crate::convert::fault_number;
 use intervals::Gave;
@@ -26,7 +26,7 @@ pub struct Step {
 }
 
 pub fn walk_in(w: Walk) -> intervals::Walk
-    ensures { result ≡ handedIn w }
+    ensures { result ≡ handed_in w }
 {
     intervals::Walk {
         width: w.width,
@@ -37,7 +37,7 @@ pub fn walk_in(w: Walk) -> intervals::Walk
 }
 
 fn walk_out(w: intervals::Walk) -> Walk
-    ensures { result ≡ handedOut w }
+    ensures { result ≡ handed_out w }
 {
     let ended: u32 = if w.ended { 1 } else { 0 };
     Walk {
@@ -50,7 +50,7 @@ fn walk_out(w: intervals::Walk) -> Walk
 
 // The step s of the walk w.
 pub fn stepped(w: Walk, s: intervals::Step) -> Step
-    ensures { result ≡ faceOf w (steppedAs s) }
+    ensures { result ≡ face_of w (stepped_as s) }
 {
     let value = s.word.value as u32;
     let mask = s.word.mask as u32;

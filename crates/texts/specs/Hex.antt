@@ -2,9 +2,9 @@
 use Rattle.std.specs.Prelude.{List, [], ◌∷◌, ℕ, ◌+◌, ◌/◌, ◌%◌, ltb}
 use Rattle.bits.specs.Choice.{if◌then◌else◌}
 
-abbrev pub hexDigit : ℕ → ℕ
-hexDigit d = if ltb d 10 then 48 + d else 55 + d
+abbrev pub hex_digit : ℕ → ℕ
+hex_digit d = if ltb d 10 then 48 + d else 55 + d
 
-unfoldable pub hexOf : List ℕ → List ℕ
-hexOf [] = []
-hexOf (b ∷ bs) = hexDigit (b / 16) ∷ hexDigit (b % 16) ∷ hexOf bs
+unfoldable pub hex_of : List ℕ → List ℕ
+hex_of [] = []
+hex_of (b ∷ bs) = hex_digit (b / 16) ∷ hex_digit (b % 16) ∷ hex_of bs

@@ -1,9 +1,9 @@
 // Numbers, bytes and table records as text, written into a lent buffer.
 ghost use Rattle.std.specs.Prelude.{[], ◌++◌, ◌∷◌, ◌≡◌, ◌*◌, ◌+◌, ◌<◌, ◌≤◌, length};
-ghost use Rattle.records.specs.Layout.{recordSize};
+ghost use Rattle.records.specs.Layout.{record_size};
 ghost use Rattle.texts.specs.Decimal.{decimal};
-ghost use Rattle.texts.specs.Hex.{hexDigit, hexOf};
-ghost use Rattle.texts.specs.Lines.{Puts, actionText, lineSize, tab, word_line};
+ghost use Rattle.texts.specs.Hex.{hex_digit, hex_of};
+ghost use Rattle.texts.specs.Lines.{Puts, action_text, line_size, tab, word_line};
 
 use records::{ACTION_AT, KEY_SIZE, MASK_AT, NUMBER_AT};
 
@@ -39,7 +39,7 @@ pub fn put_text(t: &mut [u8], at: usize, s: &[u8]) -> usize
 
 fn hex_digit(d: u8) -> u8
     requires { d < 16 }
-    ensures { result ≡ hexDigit d }
+    ensures { result ≡ hex_digit d }
 {
     if d < 10 {
         return 48 + d;
@@ -50,7 +50,7 @@ fn hex_digit(d: u8) -> u8
 // Writes the bytes of s as two hex digits each.
 pub fn put_hex(t: &mut [u8], at: usize, s: &[u8]) -> usize
     requires { at + 2 * length s.now ≤ length t.old }
-    ensures { Puts t.old at (hexOf s.now) result t.new }
+    ensures { Puts t.old at (hex_of s.now) result t.new }
 {
     let mut i: usize = 0;
     let mut to = at;
@@ -66,7 +66,7 @@ pub fn put_hex(t: &mut [u8], at: usize, s: &[u8]) -> usize
 // Writes the word for an action.
 fn put_action(t: &mut [u8], at: usize, action: u8) -> usize
     requires { at + 10 ≤ length t.old }
-    ensures { Puts t.old at (actionText action) result t.new }
+    ensures { Puts t.old at (action_text action) result t.new }
 {
     if action == 0 {
         return put_text(t, at, b"permit");
@@ -94,7 +94,7 @@ fn put_number(t: &mut [u8], at: usize, x: u32) -> usize
 // Writes the bytes of s as hex digits, and a tab.
 fn put_bytes(t: &mut [u8], at: usize, s: &[u8]) -> usize
     requires { at + (2 * length s.now + 1) ≤ length t.old }
-    ensures { Puts t.old at (hexOf s.now ++ (tab ∷ [])) result t.new }
+    ensures { Puts t.old at (hex_of s.now ++ (tab ∷ [])) result t.new }
 {
     let to = put_hex(t, at, s);
     fields::put1(t, to, 9);
@@ -103,9 +103,9 @@ fn put_bytes(t: &mut [u8], at: usize, s: &[u8]) -> usize
 
 // Writes the line of the record at the start of s, which has this index.
 pub fn put_word(t: &mut [u8], at: usize, index: u32, s: &[u8]) -> usize
-    requires line_size_in_bounds { at + lineSize ≤ length t.old }
+    requires line_size_in_bounds { at + line_size ≤ length t.old }
     requires index_bound { index < 100000 }
-    requires record_size_in_bounds { recordSize ≤ length s.now }
+    requires record_size_in_bounds { record_size ≤ length s.now }
     ensures { Puts t.old at (word_line index s.now) result t.new }
 {
     let a = put_number(t, at, index);

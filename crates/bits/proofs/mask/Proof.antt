@@ -8,7 +8,7 @@ use Prim.Native.Nat.{ℕ, ◌-◌, ◌/◌, ◌^◌}
 use native.Mathlib.Omega.{arith}
 use lib.Dec.{eqb, eqb→eq}
 use lib.ListN.{get_or}
-use Rattle.bits.proofs.Masks.{mask-law}
+use Rattle.bits.proofs.Masks.{mask_law}
 use Rattle.bits.proofs.Tables.{at}
 use Rattle.bits.proofs.mask.Statement.{statement}
 use Rattle.bits.proofs.mask.Tie as tie
@@ -47,7 +47,7 @@ returns c =
     let n = c.args.n in
     let p = n - c.args.k in
     ap (λ (x : ℕ). x / 2 ^ (16 - n)) (eqb→eq (get_or masks p 0) (2 ^ 16 - 2 ^ (16 - p)) (at right masks tt p (omega arith)))
-    ∙ mask-law n c.args.k (omega arith) (omega arith)
+    ∙ mask_law n c.args.k (omega arith) (omega arith)
 
 pub mask-spec : {M : Type 1} → statement M
 mask-spec =

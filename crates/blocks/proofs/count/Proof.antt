@@ -2,8 +2,8 @@
 use borrow.Author.Rules.{rules}
 use native.Mathlib.Omega.{arith}
 use lib.Pow.{pow_mono}
-use Rattle.bits.proofs.Differ.{differ-lt}
-use Rattle.blocks.proofs.Counts.{count-whole, count_low, count-high, count-mid}
+use Rattle.bits.proofs.Differ.{differ_lt}
+use Rattle.blocks.proofs.Counts.{count_whole, count_low, count_high, count_mid}
 use Rattle.blocks.proofs.count.Statement.{statement}
 use Rattle.blocks.proofs.count.Tie as tie
 
@@ -14,7 +14,7 @@ power-requires : tie.Need-power-requires
 power-requires c κs = search rules
 
 returns : tie.Need-returns
-returns c = count-whole _ _ _ (omega arith) (omega arith)
+returns c = count_whole _ _ _ (omega arith) (omega arith)
 
 returns-2 : tie.Need-returns-2
 returns-2 c = count_low _ _ _ (omega arith) (omega arith)
@@ -29,7 +29,7 @@ sub-result : tie.Need-overflow-sub-result
 sub-result c = search rules
 
 returns-3 : tie.Need-returns-3
-returns-3 c = count-high _ _ _ (omega arith) (omega arith) _ c.ones_below.ensures
+returns-3 c = count_high _ _ _ (omega arith) (omega arith) _ c.ones_below.ensures
 
 highest-apart-requires : tie.Need-highest-apart-requires
 highest-apart-requires c κs = search rules
@@ -49,7 +49,7 @@ add-result c = search rules
 returns-4 : tie.Need-returns-4
 returns-4 c =
     let d = c.before.before.highest-apart.ensures.differ in
-    count-mid _ _ _ (omega arith) (omega arith) _ (differ-lt _ _ _ _ (omega arith) (omega arith) d) d _ _
+    count_mid _ _ _ (omega arith) (omega arith) _ (differ_lt _ _ _ _ (omega arith) (omega arith) d) d _ _
     c.before.ones-below2.ensures c.ones-below3.ensures
 
 pub count_spec : {M : Type 1} → statement M

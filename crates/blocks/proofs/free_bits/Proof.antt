@@ -2,12 +2,12 @@
 -- Assumes nothing.
 use borrow.Author.Rules.{rules}
 use native.Mathlib.Omega.{arith}
-use Rattle.blocks.proofs.Leaner.{free_law, free-none}
+use Rattle.blocks.proofs.Leaner.{free_law, free_none}
 use Rattle.blocks.proofs.free_bits.Statement.{statement}
 use Rattle.blocks.proofs.free_bits.Tie as tie
 
 returns : tie.Need-returns
-returns c = free-none _ _ _ (omega arith)
+returns c = free_none _ _ _ (omega arith)
 
 low-zeros-requires : tie.Need-low-zeros-requires
 low-zeros-requires c κs = search rules

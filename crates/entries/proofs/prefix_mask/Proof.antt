@@ -1,7 +1,7 @@
 -- `entries::prefix_mask` meets its contract: the shift stays within the 32 bits' size. Assumes nothing.
 use borrow.Author.Rules.{rules}
 use native.Mathlib.Omega.{arith}
-use Rattle.entries.proofs.AddressMasks.{mask_fits, mask_is, shift-most}
+use Rattle.entries.proofs.AddressMasks.{mask_fits, mask_is, shift_most}
 use Rattle.entries.proofs.prefix_mask.Statement.{statement}
 use Rattle.entries.proofs.prefix_mask.Tie as tie
 
@@ -15,7 +15,7 @@ shl-result : tie.Need-overflow-shl-result
 shl-result c = search rules
 
 sub-result-2 : tie.Need-overflow-sub-result-2
-sub-result-2 c = shift-most _ (omega arith)
+sub-result-2 c = shift_most _ (omega arith)
 
 cast-result-2 : tie.Need-overflow-cast-result-2
 cast-result-2 c = record { fits = mask_fits _ (omega arith) }

@@ -2,13 +2,13 @@
 -- Assumes nothing.
 use Prim.Native.Nat.{◌-◌}
 use native.Mathlib.Omega.{arith}
-use Rattle.entries.specs.Words.{destWords, portRow}
-use Rattle.entries.proofs.WordByWord.{Putting, putting-start, putting-room, putting-end, row-joins, row_more}
+use Rattle.entries.specs.Words.{dest_words, port_row}
+use Rattle.entries.proofs.WordByWord.{Putting, putting_start, putting_room, putting_end, row_joins, row_more}
 use Rattle.entries.proofs.put_row.Statement.{statement}
 use Rattle.entries.proofs.put_row.Tie as tie
 
 abbrev invariant-loop : tie.invariant-loop
-invariant-loop t₀ at value mask r number end next₀ free₀ t next free = Putting (portRow value mask r number) t₀ at (destWords r) end t next free
+invariant-loop t₀ at value mask r number end next₀ free₀ t next free = Putting (port_row value mask r number) t₀ at (dest_words r) end t next free
 
 abbrev decreases-loop : tie.decreases-loop
 decreases-loop t₀ at value mask r number end next₀ free₀ t next free = end - next
@@ -25,7 +25,7 @@ half-requires-2 c κs = tt
 loop-holds : tie.Need-loop-init invariant-loop decreases-loop
 loop-holds c =
     let pre = c.before.before.before.requires in
-    putting-start _ _ _ _ _ _ _ pre.0.dest c.half2.ensures c.before.half.ensures pre.1
+    putting_start _ _ _ _ _ _ _ pre.0.dest c.half2.ensures c.before.half.ensures pre.1
 
 free-bits-requires : tie.Need-free-bits-requires invariant-loop decreases-loop
 free-bits-requires c κs = omega arith
@@ -39,7 +39,7 @@ mask-requires c κs = omega arith
 put-record-requires : tie.Need-put-record-requires invariant-loop decreases-loop
 put-record-requires c κs =
     let l = c.before.before.before.before.loop in
-    putting-room (row-joins _ _ _ _) _ _ _ _ _ _ _ l.invariant (omega arith) _ _ c.before.before.free-bits.ensures c.before.mask.ensures
+    putting_room (row_joins _ _ _ _) _ _ _ _ _ _ _ l.invariant (omega arith) _ _ c.before.before.free-bits.ensures c.before.mask.ensures
 
 add_free : tie.Need-overflow-add-free invariant-loop decreases-loop
 add_free c = omega arith
@@ -63,7 +63,7 @@ same_length : tie.Need-same-length invariant-loop decreases-loop
 same_length c = c.before.loop.invariant.left.same
 
 returns : tie.Need-returns invariant-loop decreases-loop
-returns c = putting-end (row-joins _ _ _ _) _ _ _ _ _ _ _ c.before.loop.invariant (omega arith)
+returns c = putting_end (row_joins _ _ _ _) _ _ _ _ _ _ _ c.before.loop.invariant (omega arith)
 
 pub put-row-spec : {M : Type 1} → statement M
 put-row-spec =

@@ -2,13 +2,13 @@
 -- Assumes nothing.
 use Prim.Native.Nat.{◌-◌}
 use native.Mathlib.Omega.{arith}
-use Rattle.entries.specs.Words.{portRows, sourceWords}
-use Rattle.entries.proofs.WordByWord.{Putting, putting-start, putting-room, putting-more, putting-end, rows-joins}
+use Rattle.entries.specs.Words.{port_rows, source_words}
+use Rattle.entries.proofs.WordByWord.{Putting, putting_start, putting_room, putting_more, putting_end, rows_joins}
 use Rattle.entries.proofs.put_rows.Statement.{statement}
 use Rattle.entries.proofs.put_rows.Tie as tie
 
 abbrev invariant-loop : tie.invariant-loop
-invariant-loop t₀ at value mask r number end next₀ free₀ t next free = Putting (portRows value mask r number) t₀ at (sourceWords r) end t next free
+invariant-loop t₀ at value mask r number end next₀ free₀ t next free = Putting (port_rows value mask r number) t₀ at (source_words r) end t next free
 
 abbrev decreases-loop : tie.decreases-loop
 decreases-loop t₀ at value mask r number end next₀ free₀ t next free = end - next
@@ -25,7 +25,7 @@ half-requires-2 c κs = tt
 loop-holds : tie.Need-loop-init invariant-loop decreases-loop
 loop-holds c =
     let pre = c.before.before.before.requires in
-    putting-start _ _ _ _ _ _ _ pre.0.source c.half2.ensures c.before.half.ensures pre.1
+    putting_start _ _ _ _ _ _ _ pre.0.source c.half2.ensures c.before.half.ensures pre.1
 
 free-bits-requires : tie.Need-free-bits-requires invariant-loop decreases-loop
 free-bits-requires c κs = omega arith
@@ -40,7 +40,7 @@ put-row-requires : tie.Need-put-row-requires invariant-loop decreases-loop
 put-row-requires c κs =
     let l = c.before.before.before.before in (
       l.before.before.before.before.requires.0,
-      putting-room (rows-joins _ _ _ _) _ _ _ _ _ _ _ l.loop.invariant (omega arith) _ _ c.before.before.free-bits.ensures c.before.mask.ensures,
+      putting_room (rows_joins _ _ _ _) _ _ _ _ _ _ _ l.loop.invariant (omega arith) _ _ c.before.before.free-bits.ensures c.before.mask.ensures,
     )
 
 power-requires : tie.Need-power-requires invariant-loop decreases-loop
@@ -56,14 +56,14 @@ loop-again : tie.Need-loop-preserved invariant-loop decreases-loop
 loop-again c =
     let w = c.before.before.before.put-row.ensures in
     let d = c.before.before.before.before.before in
-    putting-more (rows-joins _ _ _ _) _ _ _ _ _ _ _ d.before.before.before.loop.invariant (omega arith) _ _ d.before.free-bits.ensures d.mask.ensures _ c.power.ensures
+    putting_more (rows_joins _ _ _ _) _ _ _ _ _ _ _ d.before.before.before.loop.invariant (omega arith) _ _ d.before.free-bits.ensures d.mask.ensures _ c.power.ensures
     _ _ w.is w.free
 
 same_length : tie.Need-same-length invariant-loop decreases-loop
 same_length c = c.before.loop.invariant.left.same
 
 returns : tie.Need-returns invariant-loop decreases-loop
-returns c = putting-end (rows-joins _ _ _ _) _ _ _ _ _ _ _ c.before.loop.invariant (omega arith)
+returns c = putting_end (rows_joins _ _ _ _) _ _ _ _ _ _ _ c.before.loop.invariant (omega arith)
 
 pub put-rows-spec : {M : Type 1} → statement M
 put-rows-spec =

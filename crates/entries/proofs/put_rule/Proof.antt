@@ -1,6 +1,6 @@
 -- `entries::put_rule` meets its contract: a rule's records are the rows of its one protocol word. Assumes nothing.
 use borrow.Author.Rules.{rules}
-use Rattle.entries.proofs.RuleRows.{rule-room, rule-wrote}
+use Rattle.entries.proofs.RuleRows.{rule_room, rule_wrote}
 use Rattle.entries.proofs.put_rule.Statement.{statement}
 use Rattle.entries.proofs.put_rule.Tie as tie
 
@@ -21,7 +21,7 @@ put-rows-requires c κs =
     let d = c.before.before.before.before in
     let start = d.before.before in (
       start.requires.0,
-      rule-room start.args.r start.args.number _ _ _ _ d.proto-value.ensures c.before.before.before.proto-mask.ensures
+      rule_room start.args.r start.args.number _ _ _ _ d.proto-value.ensures c.before.before.before.proto-mask.ensures
           c.before.before.prefix-mask.ensures c.before.prefix-mask2.ensures _ start.requires.1,
     )
 
@@ -32,7 +32,7 @@ returns : tie.Need-returns
 returns c =
     let put = c.before.before in
     let d = put.before.before.before.before.before in
-    rule-wrote _ _ _ _ _ _ d.proto-value.ensures put.before.before.before.before.proto-mask.ensures
+    rule_wrote _ _ _ _ _ _ d.proto-value.ensures put.before.before.before.before.proto-mask.ensures
     put.before.before.before.prefix-mask.ensures put.before.before.prefix-mask2.ensures _ _ _ put.put-rows.ensures
 
 pub put-rule-spec : {M : Type 1} → statement M

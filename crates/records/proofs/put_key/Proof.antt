@@ -1,6 +1,6 @@
 -- `records::put_key` meets its contract: the five fields go behind each other. Assumes nothing.
 use borrow.Author.Rules.{rules}
-use Rattle.records.proofs.Layouts.{key-written}
+use Rattle.records.proofs.Layouts.{key_written}
 use Rattle.records.proofs.put_key.Statement.{statement}
 use Rattle.records.proofs.put_key.Tie as tie
 
@@ -41,7 +41,7 @@ returns c =
     let c3 = c4.before.before.before.before in
     let c2 = c3.before.before.before.before in
     let c1 = c2.before.before.before.before in
-    key-written _ _ _ _ _ _ _ _ c1.before.before.before.requires c1.put1.ensures c2.put4.ensures c3.put42.ensures c4.put2.ensures c5.put22.ensures
+    key_written _ _ _ _ _ _ _ _ c1.before.before.before.requires c1.put1.ensures c2.put4.ensures c3.put42.ensures c4.put2.ensures c5.put22.ensures
 
 pub put-key-spec : {M : Type 1} → statement M
 put-key-spec =

@@ -1,6 +1,6 @@
 -- `records::put_record` meets its contract: value, mask, rule number and action go behind each other. Assumes nothing.
 use borrow.Author.Rules.{rules}
-use Rattle.records.proofs.Layouts.{record-written}
+use Rattle.records.proofs.Layouts.{record_written}
 use Rattle.records.proofs.put_record.Statement.{statement}
 use Rattle.records.proofs.put_record.Tie as tie
 
@@ -34,7 +34,7 @@ returns c =
     let c3 = c4.before.before.before.before in
     let c2 = c3.before.before.before.before in
     let c1 = c2.before.before.before.before in
-    record-written _ _ _ _ _ _ _ _ _ _ c1.before.before.before.requires c1.put-key.ensures c2.put-key2.ensures c3.put1.ensures c4.put12.ensures
+    record_written _ _ _ _ _ _ _ _ _ _ c1.before.before.before.requires c1.put-key.ensures c2.put-key2.ensures c3.put1.ensures c4.put12.ensures
 
 pub put-record-spec : {M : Type 1} → statement M
 put-record-spec =

@@ -1,6 +1,6 @@
 -- `records::put_rule` meets its contract: the parts go behind each other. Assumes nothing.
 use borrow.Author.Rules.{rules}
-use Rattle.records.proofs.RuleLayout.{rule-written}
+use Rattle.records.proofs.RuleLayout.{rule_written}
 use Rattle.records.proofs.put_rule.Statement.{statement}
 use Rattle.records.proofs.put_rule.Tie as tie
 
@@ -55,7 +55,7 @@ returns c =
     let c3 = c4.before.before.before.before in
     let c2 = c3.before.before.before.before in
     let c1 = c2.before.before.before.before in
-    rule-written _ _ _ _ _ _ _ _ _ _ c1.before.before.before.requires c1.put1.ensures c2.put12.ensures c3.put-prefix.ensures c4.put-prefix2.ensures c5.put-ports.ensures c6.put-ports2.ensures c7.put13.ensures
+    rule_written _ _ _ _ _ _ _ _ _ _ c1.before.before.before.requires c1.put1.ensures c2.put12.ensures c3.put-prefix.ensures c4.put-prefix2.ensures c5.put-ports.ensures c6.put-ports2.ensures c7.put13.ensures
 
 pub put-rule-spec : {M : Type 1} → statement M
 put-rule-spec =

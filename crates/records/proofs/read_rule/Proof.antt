@@ -1,6 +1,6 @@
 -- `records::read_rule` meets its contract: each field is read at its place. Assumes nothing.
 use borrow.Author.Rules.{rules}
-use Rattle.records.specs.Rules.{ruleAt}
+use Rattle.records.specs.Rules.{rule_at}
 use Rattle.records.proofs.read_rule.Statement.{statement}
 use Rattle.records.proofs.read_rule.Tie as tie
 
@@ -38,7 +38,7 @@ shared-slice-read-t17 : tie.Need-shared-slice-read-t17
 shared-slice-read-t17 c = search rules
 
 returns : tie.Need-returns
-unfolding ruleAt
+unfolding rule_at
 returns c = cc
 
 pub read-rule-spec : {M : Type 1} → statement M

@@ -1,7 +1,7 @@
 -- `sheetwords::print_rules` is safe and ends: the words compiled are in the table. Assumes nothing.
 use borrow.Author.Rules.{rules}
 use native.Mathlib.Omega.{arith}
-use Rattle.tablet.proofs.Bounds.{compiled-few}
+use Rattle.tablet.proofs.Bounds.{compiled_few}
 use Rattle.sheetwords.proofs.print_rules.Statement.{statement}
 use Rattle.sheetwords.proofs.print_rules.Tie as tie
 
@@ -22,7 +22,7 @@ slice-aggregate-print-words c = search rules
 
 print-words-requires : tie.Need-print-words-requires
 print-words-requires c κs =
-    (compiled-few _ _ _ _ c.before.before.before.before.ashkavorz-compile.ensures (omega arith), omega arith)
+    (compiled_few _ _ _ _ c.before.before.before.before.ashkavorz-compile.ensures (omega arith), omega arith)
 
 counted-requires : tie.Need-counted-requires
 counted-requires c κs = search rules

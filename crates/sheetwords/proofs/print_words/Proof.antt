@@ -5,14 +5,14 @@ use Prim.Native.Nat.{◌-◌, ◌*◌, ◌≤◌}
 use native.Mathlib.Omega.{arith}
 use lib.ListN.{drop, length, length-drop, length-take, take}
 use lib.Seq.{length-take-le}
-use Rattle.records.specs.Layout.{recordSize}
+use Rattle.records.specs.Layout.{record_size}
 use Rattle.sheetwords.specs.Pieces.{piece_size}
 use Rattle.sheetwords.proofs.Gathering.{next_fits}
 use Rattle.sheetwords.proofs.print_words.Statement.{statement}
 use Rattle.sheetwords.proofs.print_words.Tie as tie
 
 abbrev invariant-loop : tie.invariant-loop
-invariant-loop table k out₀ at₀ from₀ i₀ out at from i = ((length out ≡ piece_size) × (at ≤ piece_size)) × ((from ≡ recordSize * i) × (i ≤ k))
+invariant-loop table k out₀ at₀ from₀ i₀ out at from i = ((length out ≡ piece_size) × (at ≤ piece_size)) × ((from ≡ record_size * i) × (i ≤ k))
 
 abbrev decreases-loop : tie.decreases-loop
 decreases-loop table k out₀ at₀ from₀ i₀ out at from i = k - i
@@ -56,7 +56,7 @@ loop-again c =
     let l = c.before.before.before.before.before.before.before.loop in
     let t = c.before.before.before.before.before.before.before.before.before.args.table.now in
     let s = take (length t - l.from) (drop l.from t) in
-    let whole : recordSize ≤ length s = simp (length-take, length-drop) (omega arith) in
+    let whole : record_size ≤ length s = simp (length-take, length-drop) (omega arith) in
     ((search rules, next_fits _ _ _ _ _ s c.before.before.before.before.placed.ensures whole p.ensures), (omega arith, omega arith))
 
 array-share-prefix-out : tie.Need-array-share-prefix-out invariant-loop decreases-loop

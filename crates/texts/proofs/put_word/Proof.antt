@@ -2,12 +2,12 @@
 use borrow.Author.Rules.{rules}
 use native.Mathlib.Omega.{arith}
 use lib.ListN.{length-drop, length-take}
-use Rattle.texts.proofs.WordLine.{Short, fields-short, line-put}
+use Rattle.texts.proofs.WordLine.{Short, fields_short, line_put}
 use Rattle.texts.proofs.put_word.Statement.{statement}
 use Rattle.texts.proofs.put_word.Tie as tie
 
 short : (c : tie.Start) → Short c.args.index c.args.s.now
-short c = fields-short _ _ c.requires.1.1
+short c = fields_short _ _ c.requires.1.1
 
 put-number-requires : tie.Need-put-number-requires
 put-number-requires c κs = search rules
@@ -63,7 +63,7 @@ returns c =
     let c2 = c3.before.before.before.before.before in
     let c1 = c2.before.before.before.before.before in
     let a = c1.before.before.before.before in
-    line-put _ _ _ _ _ _ _ _ _ _ _ _ _ _ a.args.s.now a.requires.1.1 a.requires.0 c1.put-number.ensures c2.put-number2.ensures
+    line_put _ _ _ _ _ _ _ _ _ _ _ _ _ _ a.args.s.now a.requires.1.1 a.requires.0 c1.put-number.ensures c2.put-number2.ensures
     c3.put-bytes.ensures c4.put-bytes2.ensures c5.put-action.ensures c6.put1.ensures
 
 pub put-word-spec : {M : Type 1} → statement M

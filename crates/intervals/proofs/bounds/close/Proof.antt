@@ -5,15 +5,15 @@ use native.Mathlib.Omega.{arith}
 use borrow.Author.Rules.{rules}
 use mir.Syntax.{w32}
 use mir.ValLaws.{to_z-of_z}
-use Rattle.intervals.proofs.Closing.{closing-low, closing-high, ends-closing}
+use Rattle.intervals.proofs.Closing.{closing_low, closing_high, ends_closing}
 use Rattle.intervals.proofs.bounds.close.Statement.{statement}
 use Rattle.intervals.proofs.bounds.close.Tie as tie
 
 returns : tie.Need-returns
-returns c = sym (closing-low _ _ _ c.if1.true)
+returns c = sym (closing_low _ _ _ c.if1.true)
 
 returns-2 : tie.Need-returns-2
-returns-2 c = sym (closing-high _ _ _ c.before.if1.false c.if2.true)
+returns-2 c = sym (closing_high _ _ _ c.before.if1.false c.if2.true)
 
 power-requires : tie.Need-power-requires
 power-requires c κs = search rules
@@ -38,7 +38,7 @@ returns-3 c =
       to_z-of_z w32 s.args.a s.ranges.a,
       to_z-of_z w32 s.args.b s.ranges.b,
     )
-    (ends-closing s.args.n s.args.a s.args.b (omega arith) (omega arith))
+    (ends_closing s.args.n s.args.a s.args.b (omega arith) (omega arith))
 
 pub close_spec : {M : Type 1} → statement M
 close_spec =

@@ -7,7 +7,7 @@ use borrow.Author.Rules.{rules}
 use mir.Syntax.{w32}
 use mir.Val.{to_z, of_z}
 use mir.ValLaws.{to_z-of_z}
-use Rattle.intervals.proofs.Closing.{low-out, high-out, Near, near, past-out, past-in}
+use Rattle.intervals.proofs.Closing.{low_out, high_out, Near, near, past_out, past_in}
 use Rattle.intervals.proofs.bounds.place_of.Statement.{statement}
 use Rattle.intervals.proofs.bounds.place_of.Tie as tie
 
@@ -25,12 +25,12 @@ sum_same : (c : tie.Else2) → let a = c.before.before.args.a in to_z w32 (of_z 
 sum_same c = rw (same c.before.before) (to_z-of_z w32 (c.before.before.args.a +ℤ pos 1) (near-here c).sum)
 
 returns : tie.Need-returns
-returns c = low-out c.before.args.a c.before.args.top (rw (same c.before) at c.if1.true)
+returns c = low_out c.before.args.a c.before.args.top (rw (same c.before) at c.if1.true)
 
 returns-2 : tie.Need-returns-2
 returns-2 c =
     let s = c.before.before in
-    high-out s.args.a s.args.top s.requires (rw (same s) at c.if2.true)
+    high_out s.args.a s.args.top s.requires (rw (same s) at c.if2.true)
 
 add-k : tie.Need-overflow-add-k
 add-k c = rw (same c.before.before) (near-here c).sum
@@ -44,13 +44,13 @@ add-if3 c = search rules
 returns-3 : tie.Need-returns-3
 returns-3 c =
     let s = c.before.before.before in
-    past-out s.args.a s.args.top (rw (same s) at c.before.before.if1.false) (rw (sum_same c.before) at c.if3.true)
+    past_out s.args.a s.args.top (rw (same s) at c.before.before.if1.false) (rw (sum_same c.before) at c.if3.true)
 
 returns-4 : tie.Need-returns-4
 returns-4 c =
     let s = c.before.before.before in
     rw (sum_same c.before)
-    (past-in s.args.a s.args.top (rw (same s) at c.before.before.if1.false) (rw (sum_same c.before) at c.if3.false))
+    (past_in s.args.a s.args.top (rw (same s) at c.before.before.if1.false) (rw (sum_same c.before) at c.if3.false))
 
 pub place-of-spec : {M : Type 1} → statement M
 place-of-spec = tie.close (tie.spec returns returns-2 add-k cast-k add-if3 returns-3 returns-4)

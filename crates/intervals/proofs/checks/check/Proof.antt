@@ -1,8 +1,8 @@
 -- `intervals::checks::check` meets its contract: the tests of the interval come first. Assumes nothing.
 use mathlib.Core.Path.{sym, ◌∙◌}
 use borrow.Author.Rules.{rules}
-use Rattle.intervals.proofs.Judging.{checking-bad, checking-good}
-use Rattle.intervals.proofs.Testing.{tested-good}
+use Rattle.intervals.proofs.Judging.{checking_bad, checking_good}
+use Rattle.intervals.proofs.Testing.{tested_good}
 use Rattle.intervals.proofs.checks.check.Statement.{statement}
 use Rattle.intervals.proofs.checks.check.Tie as tie
 
@@ -16,14 +16,14 @@ enum_told : tie.Need-enum-told
 enum_told c = search rules
 
 check-good-requires : tie.Need-check-good-requires
-check-good-requires c κs = tested-good _ _ _ (sym c.before.before.test-ends.ensures ∙ c.enum_told.given.1)
+check-good-requires c κs = tested_good _ _ _ (sym c.before.before.test-ends.ensures ∙ c.enum_told.given.1)
 
 returns : tie.Need-returns
-returns c = checking-bad _ _ _ _ _ c.before.before.before.test-ends.ensures c.before.f.given.1
+returns c = checking_bad _ _ _ _ _ c.before.before.before.test-ends.ensures c.before.f.given.1
 
 returns-2 : tie.Need-returns-2
 returns-2 c =
-    checking-good _ _ _ _ _ c.before.before.before.test-ends.ensures c.before.enum_told.given.1 c.check-good.ensures
+    checking_good _ _ _ _ _ c.before.before.before.test-ends.ensures c.before.enum_told.given.1 c.check-good.ensures
 
 pub check-spec : {M : Type 1} → statement M
 check-spec =

@@ -1,12 +1,12 @@
 -- `intervals::checks::check_good` meets its contract: each return is one of the laws of `judged`. Assumes nothing.
 use native.Mathlib.Omega.{arith}
 use borrow.Author.Rules.{rules}
-use Rattle.intervals.proofs.Judging.{judged-stated, judged-ill, judged-on}
+use Rattle.intervals.proofs.Judging.{judged_stated, judged_ill, judged_on}
 use Rattle.intervals.proofs.checks.check_good.Statement.{statement}
 use Rattle.intervals.proofs.checks.check_good.Tie as tie
 
 returns : tie.Need-returns
-returns c = judged-stated _ _ _ _ _ (omega arith)
+returns c = judged_stated _ _ _ _ _ (omega arith)
 
 first-ill-requires : tie.Need-first-ill-requires
 first-ill-requires c κs = omega arith
@@ -21,11 +21,11 @@ judge-requires : tie.Need-judge-requires
 judge-requires c κs = omega arith
 
 returns-2 : tie.Need-returns-2
-returns-2 c = judged-ill _ _ _ _ _ (omega arith) c.before.before.before.first-ill.ensures c.before.i.given.1
+returns-2 c = judged_ill _ _ _ _ _ (omega arith) c.before.before.before.first-ill.ensures c.before.i.given.1
 
 returns-3 : tie.Need-returns-3
 returns-3 c =
-    judged-on _ _ _ _ _ (omega arith) c.before.before.before.first-ill.ensures c.before.enum_told.given.1 c.judge.ensures
+    judged_on _ _ _ _ _ (omega arith) c.before.before.before.first-ill.ensures c.before.enum_told.given.1 c.judge.ensures
 
 pub check-good-spec : {M : Type 1} → statement M
 check-good-spec =

@@ -2,19 +2,19 @@
 use mathlib.Core.Path.{◌≡◌, sym, ◌∙◌}
 use Prim.Native.Nat.{◌-◌, ◌≤◌}
 use native.Mathlib.Omega.{arith}
-use Rattle.intervals.specs.Checks.{firstIll, wordsFrom}
-use Rattle.intervals.proofs.Judging.{ill-start, ill-turn, ill-here, ill-none}
+use Rattle.intervals.specs.Checks.{first_ill, words_from}
+use Rattle.intervals.proofs.Judging.{ill_start, ill_turn, ill_here, ill_none}
 use Rattle.intervals.proofs.checks.first_ill.Statement.{statement}
 use Rattle.intervals.proofs.checks.first_ill.Tie as tie
 
 abbrev invariant-loop : tie.invariant-loop
-invariant-loop n list k i₀ i = (i ≤ k) × (firstIll n 0 (wordsFrom 0 k list) ≡ firstIll n i (wordsFrom i (k - i) list))
+invariant-loop n list k i₀ i = (i ≤ k) × (first_ill n 0 (words_from 0 k list) ≡ first_ill n i (words_from i (k - i) list))
 
 abbrev decreases-loop : tie.decreases-loop
 decreases-loop n list k i₀ i = k - i
 
 loop-holds : tie.Need-loop-init invariant-loop decreases-loop
-loop-holds c = (omega arith, ill-start _ _ _)
+loop-holds c = (omega arith, ill_start _ _ _)
 
 mul-formed : tie.Need-overflow-mul-formed invariant-loop decreases-loop
 mul-formed c = omega arith
@@ -49,15 +49,15 @@ loop-less c = omega arith
 loop-again : tie.Need-loop-preserved invariant-loop decreases-loop
 loop-again c =
     let l = c.before.before.before.before.before.loop in
-    (omega arith, l.invariant.1 ∙ ill-turn _ _ _ _ (omega arith) c.before.formed.ensures c.if1.true)
+    (omega arith, l.invariant.1 ∙ ill_turn _ _ _ _ (omega arith) c.before.formed.ensures c.if1.true)
 
 returns : tie.Need-returns invariant-loop decreases-loop
 returns c =
     let l = c.before.before.before.before.before.loop in
-    sym (l.invariant.1 ∙ ill-here _ _ _ _ (omega arith) c.before.formed.ensures c.if1.false)
+    sym (l.invariant.1 ∙ ill_here _ _ _ _ (omega arith) c.before.formed.ensures c.if1.false)
 
 returns-2 : tie.Need-returns-2 invariant-loop decreases-loop
-returns-2 c = sym (c.before.loop.invariant.1 ∙ ill-none _ _ _ _ (omega arith))
+returns-2 c = sym (c.before.loop.invariant.1 ∙ ill_none _ _ _ _ (omega arith))
 
 pub first-ill-spec : {M : Type 1} → statement M
 first-ill-spec =

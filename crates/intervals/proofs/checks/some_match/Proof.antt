@@ -3,19 +3,19 @@ use mathlib.Core.Path.{◌≡◌, sym, ◌∙◌}
 use Prim.Native.Nat.{◌-◌, ◌≤◌}
 use native.Mathlib.Omega.{arith}
 use Rattle.blocks.specs.Tests.{some?}
-use Rattle.intervals.specs.Checks.{wordsFrom}
-use Rattle.intervals.proofs.Judging.{some-start, some_turn, some-here, some-none}
+use Rattle.intervals.specs.Checks.{words_from}
+use Rattle.intervals.proofs.Judging.{some_start, some_turn, some_here, some_none}
 use Rattle.intervals.proofs.checks.some_match.Statement.{statement}
 use Rattle.intervals.proofs.checks.some_match.Tie as tie
 
 abbrev invariant-loop : tie.invariant-loop
-invariant-loop list k x i₀ i = (i ≤ k) × (some? (wordsFrom 0 k list) x ≡ some? (wordsFrom i (k - i) list) x)
+invariant-loop list k x i₀ i = (i ≤ k) × (some? (words_from 0 k list) x ≡ some? (words_from i (k - i) list) x)
 
 abbrev decreases-loop : tie.decreases-loop
 decreases-loop list k x i₀ i = k - i
 
 loop-holds : tie.Need-loop-init invariant-loop decreases-loop
-loop-holds c = (omega arith, some-start _ _ _)
+loop-holds c = (omega arith, some_start _ _ _)
 
 mul-if1 : tie.Need-overflow-mul-if1 invariant-loop decreases-loop
 mul-if1 c = omega arith
@@ -41,7 +41,7 @@ shared-slice-read-if1-2 c = omega arith
 returns : tie.Need-returns invariant-loop decreases-loop
 returns c =
     let l = c.before.before.before.before.loop in
-    sym (l.invariant.1 ∙ some-here _ _ _ _ (omega arith) c.if1.true)
+    sym (l.invariant.1 ∙ some_here _ _ _ _ (omega arith) c.if1.true)
 
 add-i : tie.Need-overflow-add-i invariant-loop decreases-loop
 add-i c = omega arith
@@ -55,7 +55,7 @@ loop-again c =
     (omega arith, l.invariant.1 ∙ some_turn _ _ _ _ (omega arith) c.if1.false)
 
 returns-2 : tie.Need-returns-2 invariant-loop decreases-loop
-returns-2 c = sym (c.before.loop.invariant.1 ∙ some-none _ _ _ _ (omega arith))
+returns-2 c = sym (c.before.loop.invariant.1 ∙ some_none _ _ _ _ (omega arith))
 
 pub some-match-spec : {M : Type 1} → statement M
 some-match-spec =

@@ -5,7 +5,7 @@ use native.Mathlib.Omega.{arith}
 use borrow.Author.Rules.{rules}
 use lib.ListN.{length-set}
 use lib.Pow.{pow_mono}
-use Rattle.intervals.proofs.Filling.{Filled, filled-start, filled-room, filled_more, filled-end}
+use Rattle.intervals.proofs.Filling.{Filled, filled_start, filled_room, filled_more, filled_end}
 use Rattle.intervals.proofs.lists.fill.Statement.{statement}
 use Rattle.intervals.proofs.lists.fill.Tie as tie
 
@@ -19,7 +19,7 @@ add-end : tie.Need-overflow-add-end invariant-loop decreases-loop
 add-end c = omega (arith, pow_mono c.before.requires.0.most)
 
 loop-holds : tie.Need-loop-init invariant-loop decreases-loop
-loop-holds c = filled-start _ _ _ _ (omega arith) c.before.requires.1
+loop-holds c = filled_start _ _ _ _ (omega arith) c.before.requires.1
 
 free-bits-requires : tie.Need-free-bits-requires invariant-loop decreases-loop
 free-bits-requires c κs = omega (arith, pow_mono c.before.before.before.requires.0.most)
@@ -31,7 +31,7 @@ mul-out : tie.Need-overflow-mul-out invariant-loop decreases-loop
 mul-out c = search rules
 
 slice-write-out : tie.Need-slice-write-out invariant-loop decreases-loop
-slice-write-out c = omega (arith, filled-room _ _ _ _ _ _ _ c.before.before.loop.invariant (omega arith) (omega arith))
+slice-write-out c = omega (arith, filled_room _ _ _ _ _ _ _ c.before.before.loop.invariant (omega arith) (omega arith))
 
 mask-requires : tie.Need-mask-requires invariant-loop decreases-loop
 mask-requires c κs = search rules
@@ -43,7 +43,7 @@ mul-out-2 : tie.Need-overflow-mul-out-2 invariant-loop decreases-loop
 mul-out-2 c = search rules
 
 slice-write-out-2 : tie.Need-slice-write-out-2 invariant-loop decreases-loop
-slice-write-out-2 c = simp length-set (filled-room _ _ _ _ _ _ _ c.before.before.before.loop.invariant (omega arith) (omega arith))
+slice-write-out-2 c = simp length-set (filled_room _ _ _ _ _ _ _ c.before.before.before.loop.invariant (omega arith) (omega arith))
 
 add-i : tie.Need-overflow-add-i invariant-loop decreases-loop
 add-i c = search rules
@@ -67,7 +67,7 @@ same_length : tie.Need-same-length invariant-loop decreases-loop
 same_length c = c.before.loop.invariant.same
 
 returns : tie.Need-returns invariant-loop decreases-loop
-returns c = filled-end _ _ _ _ _ _ _ c.before.loop.invariant (omega arith)
+returns c = filled_end _ _ _ _ _ _ _ c.before.loop.invariant (omega arith)
 
 pub fill_spec : {M : Type 1} → statement M
 fill_spec =

@@ -1,6 +1,6 @@
 -- `rules::faults::beyond` meets its contract: what is shifted is the power of two. Assumes nothing.
 use borrow.Author.Rules.{rules}
-use Rattle.rules.proofs.Powers.{size_is, size-some}
+use Rattle.rules.proofs.Powers.{size_is, size_some}
 use Rattle.rules.proofs.faults.beyond.Statement.{statement}
 use Rattle.rules.proofs.faults.beyond.Tie as tie
 
@@ -14,7 +14,7 @@ shl-result : tie.Need-overflow-shl-result
 shl-result c = search rules
 
 rem-result : tie.Need-nonzero-rem-result
-rem-result c = size-some _
+rem-result c = size_some _
 
 returns : tie.Need-returns
 returns c = rw size_is

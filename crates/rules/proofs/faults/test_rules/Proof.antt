@@ -2,8 +2,8 @@
 use Prim.Native.Nat.{◌-◌}
 use native.Mathlib.Omega.{arith}
 use lib.ListN.{length-drop, length-take}
-use Rattle.rules.proofs.Testing.{tested-many, tested-odd}
-use Rattle.rules.proofs.Turning.{Tested, tested-bad, tested-end, tested-start, tested-turn}
+use Rattle.rules.proofs.Testing.{tested_many, tested_odd}
+use Rattle.rules.proofs.Turning.{Tested, tested_bad, tested_end, tested_start, tested_turn}
 use Rattle.rules.proofs.faults.test_rules.Statement.{statement}
 use Rattle.rules.proofs.faults.test_rules.Tie as tie
 
@@ -14,13 +14,13 @@ abbrev decreases-loop : tie.decreases-loop
 decreases-loop rules n i₀ at₀ i at = n - i
 
 returns : tie.Need-returns invariant-loop decreases-loop
-returns c = tested-odd _ c.if1.true
+returns c = tested_odd _ c.if1.true
 
 returns-2 : tie.Need-returns-2 invariant-loop decreases-loop
-returns-2 c = tested-many _ c.before.if1.false (omega arith)
+returns-2 c = tested_many _ c.before.if1.false (omega arith)
 
 loop-holds : tie.Need-loop-init invariant-loop decreases-loop
-loop-holds c = tested-start _ c.before.if1.false (omega arith)
+loop-holds c = tested_start _ c.before.if1.false (omega arith)
 
 sub-read-rule : tie.Need-overflow-sub-read-rule invariant-loop decreases-loop
 sub-read-rule c = omega arith
@@ -43,7 +43,7 @@ cast-t17 c = omega arith
 returns-3 : tie.Need-returns-3 invariant-loop decreases-loop
 returns-3 c =
     let t = c.before.before.before.before.before.loop.invariant in
-    tested-bad _ _ _ t _ _ (omega arith) c.before.before.read-rule.ensures c.before.bad-field.ensures c.if3.true
+    tested_bad _ _ _ t _ _ (omega arith) c.before.before.read-rule.ensures c.before.bad-field.ensures c.if3.true
 
 add_at : tie.Need-overflow-add-at invariant-loop decreases-loop
 add_at c = omega arith
@@ -57,10 +57,10 @@ loop-less c = omega arith
 loop-again : tie.Need-loop-preserved invariant-loop decreases-loop
 loop-again c =
     let t = c.before.before.before.before.before.loop.invariant in
-    tested-turn _ _ _ t _ _ (omega arith) c.before.before.read-rule.ensures c.before.bad-field.ensures c.if3.false
+    tested_turn _ _ _ t _ _ (omega arith) c.before.before.read-rule.ensures c.before.bad-field.ensures c.if3.false
 
 returns-4 : tie.Need-returns-4 invariant-loop decreases-loop
-returns-4 c = tested-end _ _ _ c.before.loop.invariant (omega arith)
+returns-4 c = tested_end _ _ _ c.before.loop.invariant (omega arith)
 
 pub test-rules-spec : {M : Type 1} → statement M
 test-rules-spec =

@@ -1,6 +1,6 @@
 -- `rules::finding::addr_matches` meets its contract: what is shifted is the power of two. Assumes nothing.
 use borrow.Author.Rules.{rules}
-use Rattle.rules.proofs.Powers.{size_is, size-some}
+use Rattle.rules.proofs.Powers.{size_is, size_some}
 use Rattle.rules.proofs.finding.addr_matches.Statement.{statement}
 use Rattle.rules.proofs.finding.addr_matches.Tie as tie
 
@@ -14,10 +14,10 @@ shl-size : tie.Need-overflow-shl-size
 shl-size c = search rules
 
 div-result : tie.Need-nonzero-div-result
-div-result c = size-some _
+div-result c = size_some _
 
 div-result-2 : tie.Need-nonzero-div-result-2
-div-result-2 c = size-some _
+div-result-2 c = size_some _
 
 returns : tie.Need-returns
 returns c = rw size_is

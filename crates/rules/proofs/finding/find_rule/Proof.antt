@@ -1,7 +1,7 @@
 -- `rules::finding::find_rule` meets its contract: the tests of the list come first. Assumes nothing.
 use mathlib.Core.Path.{sym, ◌∙◌}
 use borrow.Author.Rules.{rules}
-use Rattle.rules.proofs.Answering.{finding-good, finding-refused}
+use Rattle.rules.proofs.Answering.{finding_good_lem, finding_refused}
 use Rattle.rules.proofs.finding.find_rule.Statement.{statement}
 use Rattle.rules.proofs.finding.find_rule.Tie as tie
 
@@ -18,10 +18,10 @@ find-good-requires : tie.Need-find-good-requires
 find-good-requires c κs = sym c.before.before.test-rules.ensures ∙ c.enum_told.given.1
 
 returns : tie.Need-returns
-returns c = finding-refused _ _ _ c.before.before.before.test-rules.ensures c.before.f.given.1
+returns c = finding_refused _ _ _ c.before.before.before.test-rules.ensures c.before.f.given.1
 
 returns-2 : tie.Need-returns-2
-returns-2 c = finding-good _ _ _ c.before.before.before.test-rules.ensures c.before.enum_told.given.1 c.find-good.ensures
+returns-2 c = finding_good_lem _ _ _ c.before.before.before.test-rules.ensures c.before.enum_told.given.1 c.find-good.ensures
 
 pub find-rule-spec : {M : Type 1} → statement M
 find-rule-spec =

@@ -3,7 +3,7 @@ use mathlib.Core.Logic.{⊎_elim}
 use Prim.Native.Nat.{◌-◌}
 use native.Mathlib.Omega.{arith}
 use lib.ListN.{length}
-use Rattle.sheets.proofs.MarksSoFar.{Counting, counting-start, counting-one, counting-other, counting-end}
+use Rattle.sheets.proofs.MarksSoFar.{Counting, counting_start, counting_one, counting_other, counting_end}
 use Rattle.sheets.proofs.cuts.count.Statement.{statement}
 use Rattle.sheets.proofs.cuts.count.Tie as tie
 
@@ -14,7 +14,7 @@ abbrev decreases-loop : tie.decreases-loop
 decreases-loop s c i₀ k₀ i k = length s - i
 
 loop-holds : tie.Need-loop-init invariant-loop decreases-loop
-loop-holds c = counting-start _ _
+loop-holds c = counting_start _ _
 
 shared-slice-read-if1 : tie.Need-shared-slice-read-if1 invariant-loop decreases-loop
 shared-slice-read-if1 c = omega arith
@@ -32,12 +32,12 @@ loop-again : tie.Need-loop-preserved invariant-loop decreases-loop
 loop-again c =
     let l = c.before.before.before.loop in
     ⊎_elim
-    (λ w. rw w.1 (counting-one _ _ _ _ l.invariant (omega arith) w.0.taken))
-    (λ w. rw w.1 (counting-other _ _ _ _ l.invariant (omega arith) w.0.left))
+    (λ w. rw w.1 (counting_one _ _ _ _ l.invariant (omega arith) w.0.taken))
+    (λ w. rw w.1 (counting_other _ _ _ _ l.invariant (omega arith) w.0.left))
     c.if1.branch
 
 returns : tie.Need-returns invariant-loop decreases-loop
-returns c = counting-end _ _ _ _ c.before.loop.invariant (omega arith)
+returns c = counting_end _ _ _ _ c.before.loop.invariant (omega arith)
 
 pub count_spec : {M : Type 1} → statement M
 count_spec =

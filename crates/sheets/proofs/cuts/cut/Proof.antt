@@ -2,7 +2,7 @@
 use Prim.Native.Nat.{◌-◌}
 use native.Mathlib.Omega.{arith}
 use lib.ListN.{length}
-use Rattle.sheets.proofs.Cutting.{Cutting, cutting-start, cutting-more, cutting-here, cutting-none}
+use Rattle.sheets.proofs.Cutting.{Cutting, cutting_start, cutting_more, cutting_here, cutting_none}
 use Rattle.sheets.proofs.cuts.cut.Statement.{statement}
 use Rattle.sheets.proofs.cuts.cut.Tie as tie
 
@@ -13,7 +13,7 @@ abbrev decreases-loop : tie.decreases-loop
 decreases-loop s c i₀ i = length s - i
 
 loop-holds : tie.Need-loop-init invariant-loop decreases-loop
-loop-holds c = cutting-start _ _
+loop-holds c = cutting_start _ _
 
 shared-slice-read-if1 : tie.Need-shared-slice-read-if1 invariant-loop decreases-loop
 shared-slice-read-if1 c = omega arith
@@ -22,7 +22,7 @@ add-t8 : tie.Need-overflow-add-t8 invariant-loop decreases-loop
 add-t8 c = omega arith
 
 returns : tie.Need-returns invariant-loop decreases-loop
-returns c = cutting-here _ _ _ c.before.before.before.loop.invariant (omega arith) c.if1.true
+returns c = cutting_here _ _ _ c.before.before.before.loop.invariant (omega arith) c.if1.true
 
 add-i : tie.Need-overflow-add-i invariant-loop decreases-loop
 add-i c = omega arith
@@ -31,10 +31,10 @@ loop-less : tie.Need-loop-smaller invariant-loop decreases-loop
 loop-less c = omega arith
 
 loop-again : tie.Need-loop-preserved invariant-loop decreases-loop
-loop-again c = cutting-more _ _ _ c.before.before.before.loop.invariant (omega arith) c.if1.false
+loop-again c = cutting_more _ _ _ c.before.before.before.loop.invariant (omega arith) c.if1.false
 
 returns-2 : tie.Need-returns-2 invariant-loop decreases-loop
-returns-2 c = cutting-none _ _ _ c.before.loop.invariant (omega arith)
+returns-2 c = cutting_none _ _ _ c.before.loop.invariant (omega arith)
 
 pub cut_spec : {M : Type 1} → statement M
 cut_spec =

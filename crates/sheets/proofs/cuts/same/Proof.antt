@@ -3,7 +3,7 @@ use mathlib.Core.Path.{sym}
 use Prim.Native.Nat.{◌-◌}
 use native.Mathlib.Omega.{arith}
 use lib.ListN.{length}
-use Rattle.sheets.proofs.Comparing.{Comparing, comparing-start, comparing-more, comparing-here, comparing-end, same-even}
+use Rattle.sheets.proofs.Comparing.{Comparing, comparing_start, comparing_more, comparing_here, comparing_end, same_even}
 use Rattle.sheets.proofs.cuts.same.Statement.{statement}
 use Rattle.sheets.proofs.cuts.same.Tie as tie
 
@@ -14,10 +14,10 @@ abbrev decreases-loop : tie.decreases-loop
 decreases-loop s t i₀ i = length s - i
 
 returns : tie.Need-returns invariant-loop decreases-loop
-returns c = sym (same-even _ _ c.if1.true)
+returns c = sym (same_even _ _ c.if1.true)
 
 loop-holds : tie.Need-loop-init invariant-loop decreases-loop
-loop-holds c = comparing-start _ _ c.if1.false
+loop-holds c = comparing_start _ _ c.if1.false
 
 shared-slice-read-if2 : tie.Need-shared-slice-read-if2 invariant-loop decreases-loop
 shared-slice-read-if2 c = omega arith
@@ -26,7 +26,7 @@ shared-slice-read-if2-2 : tie.Need-shared-slice-read-if2-2 invariant-loop decrea
 shared-slice-read-if2-2 c = omega arith
 
 returns-2 : tie.Need-returns-2 invariant-loop decreases-loop
-returns-2 c = sym (comparing-here _ _ _ c.before.before.before.before.loop.invariant (omega arith) c.if2.true)
+returns-2 c = sym (comparing_here _ _ _ c.before.before.before.before.loop.invariant (omega arith) c.if2.true)
 
 add-i : tie.Need-overflow-add-i invariant-loop decreases-loop
 add-i c = omega arith
@@ -35,10 +35,10 @@ loop-less : tie.Need-loop-smaller invariant-loop decreases-loop
 loop-less c = omega arith
 
 loop-again : tie.Need-loop-preserved invariant-loop decreases-loop
-loop-again c = comparing-more _ _ _ c.before.before.before.before.loop.invariant (omega arith) c.if2.false
+loop-again c = comparing_more _ _ _ c.before.before.before.before.loop.invariant (omega arith) c.if2.false
 
 returns-3 : tie.Need-returns-3 invariant-loop decreases-loop
-returns-3 c = sym (comparing-end _ _ _ c.before.loop.invariant (omega arith))
+returns-3 c = sym (comparing_end _ _ _ c.before.loop.invariant (omega arith))
 
 pub same_spec : {M : Type 1} → statement M
 same_spec =

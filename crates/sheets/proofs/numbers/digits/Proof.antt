@@ -2,7 +2,7 @@
 use Prim.Native.Nat.{◌-◌}
 use native.Mathlib.Omega.{arith}
 use lib.ListN.{length}
-use Rattle.sheets.proofs.DigitsSoFar.{Said, said-start, said-end, said-low, said-high, said-large, said_more}
+use Rattle.sheets.proofs.DigitsSoFar.{Said, said_start, said_end, said_low, said_high, said_large, said_more}
 use Rattle.sheets.proofs.numbers.digits.Statement.{statement}
 use Rattle.sheets.proofs.numbers.digits.Tie as tie
 
@@ -13,19 +13,19 @@ abbrev decreases-loop : tie.decreases-loop
 decreases-loop s x₀ i₀ x i = length s - i
 
 loop-holds : tie.Need-loop-init invariant-loop decreases-loop
-loop-holds c = said-start _
+loop-holds c = said_start _
 
 shared-slice-read-if1 : tie.Need-shared-slice-read-if1 invariant-loop decreases-loop
 shared-slice-read-if1 c = omega arith
 
 returns : tie.Need-returns invariant-loop decreases-loop
-returns c = said-low _ _ _ c.before.before.before.loop.invariant (omega arith) c.if1.true
+returns c = said_low _ _ _ c.before.before.before.loop.invariant (omega arith) c.if1.true
 
 shared-slice-read-if2 : tie.Need-shared-slice-read-if2 invariant-loop decreases-loop
 shared-slice-read-if2 c = omega arith
 
 returns-2 : tie.Need-returns-2 invariant-loop decreases-loop
-returns-2 c = said-high _ _ _ c.before.before.before.before.before.loop.invariant (omega arith) c.if2.true
+returns-2 c = said_high _ _ _ c.before.before.before.before.before.loop.invariant (omega arith) c.if2.true
 
 mul-x : tie.Need-overflow-mul-x invariant-loop decreases-loop
 mul-x c = omega arith
@@ -44,7 +44,7 @@ add-x c = omega arith
 
 returns-3 : tie.Need-returns-3 invariant-loop decreases-loop
 returns-3 c =
-    said-large _ _ _ c.before.before.before.before.before.before.before.loop.invariant (omega arith) (omega arith) (omega arith) c.if3.true
+    said_large _ _ _ c.before.before.before.before.before.before.before.loop.invariant (omega arith) (omega arith) (omega arith) c.if3.true
 
 add-i : tie.Need-overflow-add-i invariant-loop decreases-loop
 add-i c = omega arith
@@ -57,7 +57,7 @@ loop-again c =
     said_more _ _ _ c.before.before.before.before.before.before.before.loop.invariant (omega arith) (omega arith) (omega arith) c.if3.false
 
 returns-4 : tie.Need-returns-4 invariant-loop decreases-loop
-returns-4 c = said-end _ _ _ c.before.loop.invariant (omega arith)
+returns-4 c = said_end _ _ _ c.before.loop.invariant (omega arith)
 
 pub digits-spec : {M : Type 1} → statement M
 digits-spec =

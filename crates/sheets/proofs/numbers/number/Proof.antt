@@ -2,7 +2,7 @@
 use mathlib.Core.Logic.{⊎_elim}
 use mathlib.Core.Path.{◌∙◌}
 use native.Mathlib.Omega.{arith}
-use Rattle.sheets.proofs.DigitsSoFar.{no_number, leading-zero, number-zero, number-other}
+use Rattle.sheets.proofs.DigitsSoFar.{no_number, leading_zero, number_zero, number_other}
 use Rattle.sheets.proofs.numbers.number.Statement.{statement}
 use Rattle.sheets.proofs.numbers.number.Tie as tie
 
@@ -13,7 +13,7 @@ shared-slice-read-if2 : tie.Need-shared-slice-read-if2
 shared-slice-read-if2 c = omega arith
 
 returns-2 : tie.Need-returns-2
-returns-2 c = leading-zero _ c.before.before.before.if1.false c.before.if2.true c.if3.true
+returns-2 c = leading_zero _ c.before.before.before.if1.false c.before.if2.true c.if3.true
 
 digits-requires : tie.Need-digits-requires
 digits-requires c κs = tt
@@ -22,8 +22,8 @@ returns-3 : tie.Need-returns-3
 returns-3 c =
     c.digits.ensures
     ∙ ⊎_elim
-    (λ w. number-zero _ w.1.left)
-    (λ w. number-other _ c.before.before.before.if1.false w.left)
+    (λ w. number_zero _ w.1.left)
+    (λ w. number_other _ c.before.before.before.if1.false w.left)
     c.before.if2.branch
 
 pub number-spec : {M : Type 1} → statement M

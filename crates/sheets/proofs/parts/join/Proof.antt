@@ -1,8 +1,8 @@
 -- `sheets::parts::join` meets its contract: four bytes and a length. Assumes nothing.
 use mathlib.Core.Path.{◌∙◌}
 use native.Mathlib.Omega.{arith}
-use Rattle.rules.proofs.Powers.{size_is, size-some}
-use Rattle.sheets.proofs.Joining.{joined-first, joined-second, joined-third, joined-fourth, joined_length, joined-beyond, joined-good}
+use Rattle.rules.proofs.Powers.{size_is, size_some}
+use Rattle.sheets.proofs.Joining.{joined_first, joined_second, joined_third, joined_fourth, joined_length, joined_beyond, joined_good}
 use Rattle.sheets.proofs.parts.join.Statement.{statement}
 use Rattle.sheets.proofs.parts.join.Tie as tie
 
@@ -10,25 +10,25 @@ bad-address-requires : tie.Need-bad-address-requires
 bad-address-requires c κs = tt
 
 returns : tie.Need-returns
-returns c = c.bad-address.ensures ∙ joined-first _ _ _ _ _ (omega arith)
+returns c = c.bad-address.ensures ∙ joined_first _ _ _ _ _ (omega arith)
 
 bad-address-requires-2 : tie.Need-bad-address-requires-2
 bad-address-requires-2 c κs = tt
 
 returns-2 : tie.Need-returns-2
-returns-2 c = c.bad-address2.ensures ∙ joined-second _ _ _ _ _ (omega arith) (omega arith)
+returns-2 c = c.bad-address2.ensures ∙ joined_second _ _ _ _ _ (omega arith) (omega arith)
 
 bad-address-requires-3 : tie.Need-bad-address-requires-3
 bad-address-requires-3 c κs = tt
 
 returns-3 : tie.Need-returns-3
-returns-3 c = c.bad-address3.ensures ∙ joined-third _ _ _ _ _ (omega arith) (omega arith) (omega arith)
+returns-3 c = c.bad-address3.ensures ∙ joined_third _ _ _ _ _ (omega arith) (omega arith) (omega arith)
 
 bad-address-requires-4 : tie.Need-bad-address-requires-4
 bad-address-requires-4 c κs = tt
 
 returns-4 : tie.Need-returns-4
-returns-4 c = c.bad-address4.ensures ∙ joined-fourth _ _ _ _ _ (omega arith) (omega arith) (omega arith) (omega arith)
+returns-4 c = c.bad-address4.ensures ∙ joined_fourth _ _ _ _ _ (omega arith) (omega arith) (omega arith) (omega arith)
 
 bad-address-requires-5 : tie.Need-bad-address-requires-5
 bad-address-requires-5 c κs = tt
@@ -64,19 +64,19 @@ shl-if6 : tie.Need-overflow-shl-if6
 shl-if6 c = omega arith
 
 rem-if6 : tie.Need-nonzero-rem-if6
-rem-if6 c = size-some _
+rem-if6 c = size_some _
 
 bad-address-requires-6 : tie.Need-bad-address-requires-6
 bad-address-requires-6 c κs = tt
 
 returns-6 : tie.Need-returns-6
-returns-6 c = c.bad-address6.ensures ∙ joined-beyond _ _ _ _ _ (omega arith) (omega arith) (omega arith) (omega arith) (omega arith) (rw size_is at c.before.if6.true)
+returns-6 c = c.bad-address6.ensures ∙ joined_beyond _ _ _ _ _ (omega arith) (omega arith) (omega arith) (omega arith) (omega arith) (rw size_is at c.before.if6.true)
 
 cast-t17 : tie.Need-overflow-cast-t17
 cast-t17 c = omega arith
 
 returns-7 : tie.Need-returns-7
-returns-7 c = joined-good _ _ _ _ _ (omega arith) (omega arith) (omega arith) (omega arith) (omega arith) (rw size_is at c.if6.false)
+returns-7 c = joined_good _ _ _ _ _ (omega arith) (omega arith) (omega arith) (omega arith) (omega arith) (rw size_is at c.if6.false)
 
 pub join-spec : {M : Type 1} → statement M
 join-spec =

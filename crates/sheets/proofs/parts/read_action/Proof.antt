@@ -1,6 +1,6 @@
 -- `sheets::parts::read_action` meets its contract: one of four words. Assumes nothing.
 use mathlib.Core.Path.{refl, sym, ◌∙◌}
-use Rattle.sheets.proofs.Words.{action-permit, action-deny, action-permit-log, action-deny-log, action-none}
+use Rattle.sheets.proofs.Words.{action_permit, action_deny, action_permit_log, action_deny_log, action_none}
 use Rattle.sheets.proofs.parts.read_action.Statement.{statement}
 use Rattle.sheets.proofs.parts.read_action.Tie as tie
 
@@ -11,7 +11,7 @@ same-requires : tie.Need-same-requires
 same-requires c κs = tt
 
 returns : tie.Need-returns
-returns c = action-permit _ (sym c.before.same.ensures ∙ c.if1.true)
+returns c = action_permit _ (sym c.before.same.ensures ∙ c.if1.true)
 
 slice-aggregate-same-2 : tie.Need-slice-aggregate-same-2
 slice-aggregate-same-2 c = refl
@@ -21,7 +21,7 @@ same-requires-2 c κs = tt
 
 returns-2 : tie.Need-returns-2
 returns-2 c =
-    action-deny _
+    action_deny _
     (sym c.before.before.before.before.same.ensures ∙ c.before.before.before.if1.false)
     (sym c.before.same2.ensures ∙ c.if2.true)
 
@@ -33,7 +33,7 @@ same-requires-3 c κs = tt
 
 returns-3 : tie.Need-returns-3
 returns-3 c =
-    action-permit-log _
+    action_permit_log _
     (sym c.before.before.before.before.before.before.before.same.ensures ∙ c.before.before.before.before.before.before.if1.false)
     (sym c.before.before.before.before.same2.ensures ∙ c.before.before.before.if2.false)
     (sym c.before.same3.ensures ∙ c.if3.true)
@@ -46,7 +46,7 @@ same-requires-4 c κs = tt
 
 returns-4 : tie.Need-returns-4
 returns-4 c =
-    action-deny-log _
+    action_deny_log _
     (sym c.before.before.before.before.before.before.before.before.before.before.same.ensures ∙ c.before.before.before.before.before.before.before.before.before.if1.false)
     (sym c.before.before.before.before.before.before.before.same2.ensures ∙ c.before.before.before.before.before.before.if2.false)
     (sym c.before.before.before.before.same3.ensures ∙ c.before.before.before.if3.false)
@@ -54,7 +54,7 @@ returns-4 c =
 
 returns-5 : tie.Need-returns-5
 returns-5 c =
-    action-none _
+    action_none _
     (sym c.before.before.before.before.before.before.before.before.before.before.same.ensures ∙ c.before.before.before.before.before.before.before.before.before.if1.false)
     (sym c.before.before.before.before.before.before.before.same2.ensures ∙ c.before.before.before.before.before.before.if2.false)
     (sym c.before.before.before.before.same3.ensures ∙ c.before.before.before.if3.false)

@@ -1,8 +1,8 @@
 -- `sheets::parts::read_ports` meets its contract: the numbers before and after a dash. Assumes nothing.
 use native.Mathlib.Omega.{arith}
 use Rattle.sheets.specs.Numbers.{number_of}
-use Rattle.sheets.proofs.Assembling.{front, ports-parts}
-use Rattle.sheets.proofs.Cutting.{cut-back, cut-length, cut-next}
+use Rattle.sheets.proofs.Assembling.{front, ports_parts}
+use Rattle.sheets.proofs.Cutting.{cut_back, cut_length, cut_next}
 use Rattle.sheets.proofs.parts.read_ports.Statement.{statement}
 use Rattle.sheets.proofs.parts.read_ports.Tie as tie
 
@@ -10,13 +10,13 @@ cut-requires : tie.Need-cut-requires
 cut-requires c κs = tt
 
 slice-aggregate-number : tie.Need-slice-aggregate-number
-slice-aggregate-number c = cut-length c.before.cut.ensures
+slice-aggregate-number c = cut_length c.before.cut.ensures
 
 number-requires : tie.Need-number-requires
 number-requires c κs = tt
 
 sub_number : tie.Need-overflow-sub-number
-sub_number c = cut-next c.before.before.cut.ensures
+sub_number c = cut_next c.before.before.cut.ensures
 
 part-number-start : tie.Need-slice-bounds-number-start
 part-number-start c = omega arith
@@ -33,7 +33,7 @@ pair-requires c κs = tt
 returns : tie.Need-returns
 returns c =
     let k = c.before.before.before.before.before.cut.ensures in
-    ports-parts _ _ c.pair.ensures (cut-back k) (front number_of k c.before.before.before.number.ensures) c.before.number2.ensures
+    ports_parts _ _ c.pair.ensures (cut_back k) (front number_of k c.before.before.before.number.ensures) c.before.number2.ensures
 
 pub read-ports-spec : {M : Type 1} → statement M
 read-ports-spec =

@@ -1,16 +1,16 @@
 -- `sheets::reading::many` meets its contract: what stands after all lines stands after those that are left. Assumes nothing.
 use Prim.Native.Nat.{◌-◌}
 use native.Mathlib.Omega.{arith}
-use Rattle.records.specs.Layout.{ruleLimit}
-use Rattle.sheets.proofs.Passing.{Passed, passed-end, passed-more, passed_start}
+use Rattle.records.specs.Layout.{rule_limit}
+use Rattle.sheets.proofs.Passing.{Passed, passed_end, passed_more, passed_start}
 use Rattle.sheets.proofs.reading.many.Statement.{statement}
 use Rattle.sheets.proofs.reading.many.Tie as tie
 
 abbrev invariant-loop : tie.invariant-loop
-invariant-loop text k₀ from₀ k from = Passed ruleLimit text k from
+invariant-loop text k₀ from₀ k from = Passed rule_limit text k from
 
 abbrev decreases-loop : tie.decreases-loop
-decreases-loop text k₀ from₀ k from = ruleLimit - k
+decreases-loop text k₀ from₀ k from = rule_limit - k
 
 loop-holds : tie.Need-loop-init invariant-loop decreases-loop
 loop-holds c = passed_start _ _
@@ -30,7 +30,7 @@ cut-requires c κs = tt
 add-from : tie.Need-overflow-add-from invariant-loop decreases-loop
 add-from c =
     let l = c.before.before.before.before.loop in
-    omega (arith, (passed-more _ _ l.k l.from l.invariant (omega arith) _ c.before.cut.ensures).within)
+    omega (arith, (passed_more _ _ l.k l.from l.invariant (omega arith) _ c.before.cut.ensures).within)
 
 add-k : tie.Need-overflow-add-k invariant-loop decreases-loop
 add-k c = omega arith
@@ -41,10 +41,10 @@ loop-less c = omega arith
 loop-again : tie.Need-loop-preserved invariant-loop decreases-loop
 loop-again c =
     let l = c.before.before.before.before.loop in
-    passed-more _ _ l.k l.from l.invariant (omega arith) _ c.before.cut.ensures
+    passed_more _ _ l.k l.from l.invariant (omega arith) _ c.before.cut.ensures
 
 returns : tie.Need-returns invariant-loop decreases-loop
-returns c = passed-end _ _ _ _ c.before.loop.invariant (omega arith)
+returns c = passed_end _ _ _ _ c.before.loop.invariant (omega arith)
 
 pub many-spec : {M : Type 1} → statement M
 many-spec =

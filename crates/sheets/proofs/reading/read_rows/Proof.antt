@@ -3,8 +3,8 @@
 use Prim.Native.Nat.{◌-◌}
 use native.Mathlib.Omega.{arith}
 use borrow.Author.Rules.{rules}
-use Rattle.records.specs.Layout.{ruleLimit}
-use Rattle.sheets.proofs.LinesLeft.{LinesLeft, lines-all, lines-bad, lines_end, lines-front, lines_more, lines-open, lines_start, lines-within}
+use Rattle.records.specs.Layout.{rule_limit}
+use Rattle.sheets.proofs.LinesLeft.{LinesLeft, lines_all, lines_bad, lines_end, lines_front, lines_more, lines_open, lines_start, lines_within}
 use Rattle.sheets.proofs.reading.read_rows.Statement.{statement}
 use Rattle.sheets.proofs.reading.read_rows.Tie as tie
 
@@ -12,7 +12,7 @@ abbrev invariant-loop : tie.invariant-loop
 invariant-loop text held₀ i₀ from₀ at₀ held i from at = LinesLeft text held₀ held i from at
 
 abbrev decreases-loop : tie.decreases-loop
-decreases-loop text held₀ i₀ from₀ at₀ held i from at = ruleLimit - i
+decreases-loop text held₀ i₀ from₀ at₀ held i from at = rule_limit - i
 
 loop-holds : tie.Need-loop-init invariant-loop decreases-loop
 loop-holds c = lines_start _ _ (omega arith)
@@ -42,10 +42,10 @@ same-length-2 : tie.Need-same-length-2 invariant-loop decreases-loop
 same-length-2 c = c.before.before.before.before.before.loop.invariant.same
 
 returns-2 : tie.Need-returns-2 invariant-loop decreases-loop
-returns-2 c = lines-open _ _ _ _ _ _ c.before.before.before.before.before.loop.invariant (omega arith) _ c.before.cut.ensures c.before.before.before.if1.false c.if2.true
+returns-2 c = lines_open _ _ _ _ _ _ c.before.before.before.before.before.loop.invariant (omega arith) _ c.before.cut.ensures c.before.before.before.if1.false c.if2.true
 
 slice-aggregate-read-row : tie.Need-slice-aggregate-read-row invariant-loop decreases-loop
-slice-aggregate-read-row c = lines-front _ _ _ _ _ _ c.before.before.before.before.before.before.loop.invariant (omega arith) _ c.before.before.cut.ensures
+slice-aggregate-read-row c = lines_front _ _ _ _ _ _ c.before.before.before.before.before.before.loop.invariant (omega arith) _ c.before.before.cut.ensures
 
 read-row-requires : tie.Need-read-row-requires invariant-loop decreases-loop
 read-row-requires c κs = tt
@@ -62,7 +62,7 @@ same-length-3 c = c.before.before.before.before.before.before.before.before.befo
 returns-3 : tie.Need-returns-3 invariant-loop decreases-loop
 returns-3 c =
     let a = c.before.before.before.before.before in
-    lines-bad _ _ _ _ _ _ a.before.before.before.before.before.loop.invariant (omega arith) _ a.before.cut.ensures a.if2.false _ c.before.before.before.read-row.ensures _ c.before.k.given.1
+    lines_bad _ _ _ _ _ _ a.before.before.before.before.before.loop.invariant (omega arith) _ a.before.cut.ensures a.if2.false _ c.before.before.before.read-row.ensures _ c.before.k.given.1
 
 enum-known-r : tie.Need-enum-known-r invariant-loop decreases-loop
 enum-known-r c = search rules
@@ -74,7 +74,7 @@ add-i : tie.Need-overflow-add-i invariant-loop decreases-loop
 add-i c = omega arith
 
 add-from : tie.Need-overflow-add-from invariant-loop decreases-loop
-add-from c = omega (arith, lines-within _ _ _ _ _ _ c.before.before.before.before.before.before.before.before.before.before.before.before.before.before.loop.invariant (omega arith) _ c.before.before.before.before.before.before.before.before.before.before.cut.ensures)
+add-from c = omega (arith, lines_within _ _ _ _ _ _ c.before.before.before.before.before.before.before.before.before.before.before.before.before.before.loop.invariant (omega arith) _ c.before.before.before.before.before.before.before.before.before.before.cut.ensures)
 
 add_at : tie.Need-overflow-add-at invariant-loop decreases-loop
 add_at c = omega arith
@@ -91,7 +91,7 @@ same-length-4 : tie.Need-same-length-4 invariant-loop decreases-loop
 same-length-4 c = c.before.loop.invariant.same
 
 returns-4 : tie.Need-returns-4 invariant-loop decreases-loop
-returns-4 c = lines-all _ _ _ _ _ _ c.before.loop.invariant (omega arith)
+returns-4 c = lines_all _ _ _ _ _ _ c.before.loop.invariant (omega arith)
 
 pub read-rows-spec : {M : Type 1} → statement M
 read-rows-spec =

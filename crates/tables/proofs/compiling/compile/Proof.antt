@@ -2,7 +2,7 @@
 -- Assumes nothing.
 use borrow.Author.Rules.{rules}
 use mathlib.Core.Path.{sym, ◌∙◌}
-use Rattle.tables.proofs.Promises.{compiling-refused}
+use Rattle.tables.proofs.Promises.{compiling_refused}
 use Rattle.tables.proofs.compiling.compile.Statement.{statement}
 use Rattle.tables.proofs.compiling.compile.Tie as tie
 
@@ -19,7 +19,7 @@ compile-good-requires : tie.Need-compile-good-requires
 compile-good-requires c κs = sym c.before.before.before.test-rules.ensures ∙ c.before.enum_told.given.1
 
 returns : tie.Need-returns
-returns c = compiling-refused _ _ _ c.before.before.before.test-rules.ensures c.before.f.given.1
+returns c = compiling_refused _ _ _ c.before.before.before.test-rules.ensures c.before.f.given.1
 
 same_length : tie.Need-same-length
 same_length c = search rules

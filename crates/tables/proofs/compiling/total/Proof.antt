@@ -2,8 +2,8 @@
 use Prim.Native.Nat.{◌-◌}
 use native.Mathlib.Omega.{arith}
 use lib.ListN.{length-drop, length-take}
-use Rattle.rules.proofs.Goods.{good-list}
-use Rattle.tables.proofs.Totals.{Totalling, total-end, total-fine, total-more, total-start}
+use Rattle.rules.proofs.Goods.{good_list}
+use Rattle.tables.proofs.Totals.{Totalling, total_end, total_fine, total_more, total_start}
 use Rattle.tables.proofs.compiling.total.Statement.{statement}
 use Rattle.tables.proofs.compiling.total.Tie as tie
 
@@ -14,7 +14,7 @@ abbrev decreases-loop : tie.decreases-loop
 decreases-loop rules n i₀ from₀ k₀ i from k = n - i
 
 loop-holds : tie.Need-loop-init invariant-loop decreases-loop
-loop-holds c = total-start _ _ (good-list _ c.before.requires).good
+loop-holds c = total_start _ _ (good_list _ c.before.requires).good
 
 sub-read-rule : tie.Need-overflow-sub-read-rule invariant-loop decreases-loop
 sub-read-rule c = omega arith
@@ -31,12 +31,12 @@ read-rule-requires c κs = simp (length-take, length-drop) (omega arith)
 words-requires : tie.Need-words-requires invariant-loop decreases-loop
 words-requires c κs =
     let l = c.before.before.before.loop in
-    total-fine _ _ l.i l.from l.k l.invariant (omega arith) _ c.read-rule.ensures
+    total_fine _ _ l.i l.from l.k l.invariant (omega arith) _ c.read-rule.ensures
 
 add-k : tie.Need-overflow-add-k invariant-loop decreases-loop
 add-k c =
     let l = c.before.before.before.before.loop in
-    omega (arith, c.words.ensures.small, l.invariant.small, (good-list _ c.before.before.before.before.before.before.requires).few)
+    omega (arith, c.words.ensures.small, l.invariant.small, (good_list _ c.before.before.before.before.before.before.requires).few)
 
 add-from : tie.Need-overflow-add-from invariant-loop decreases-loop
 add-from c = omega arith
@@ -50,10 +50,10 @@ loop-less c = omega arith
 loop-again : tie.Need-loop-preserved invariant-loop decreases-loop
 loop-again c =
     let l = c.before.before.before.before.loop in
-    total-more _ _ l.i l.from l.k l.invariant (omega arith) _ c.before.read-rule.ensures _ c.words.ensures
+    total_more _ _ l.i l.from l.k l.invariant (omega arith) _ c.before.read-rule.ensures _ c.words.ensures
 
 returns : tie.Need-returns invariant-loop decreases-loop
-returns c = total-end _ _ _ _ _ c.before.loop.invariant (omega arith)
+returns c = total_end _ _ _ _ _ c.before.loop.invariant (omega arith)
 
 pub total-spec : {M : Type 1} → statement M
 total-spec =

@@ -3,20 +3,20 @@ use mathlib.Core.Path.{◌≡◌, sym, ◌∙◌}
 use Prim.Native.Nat.{◌-◌, ◌*◌, ◌≤◌}
 use native.Mathlib.Omega.{arith}
 use lib.ListN.{length-take, length-drop}
-use Rattle.records.specs.Layout.{recordSize}
-use Rattle.tables.specs.Looking.{firstRecord}
-use Rattle.tables.proofs.Scanning.{recordFrom, record-start, record-turn, record-here, record-none}
+use Rattle.records.specs.Layout.{record_size}
+use Rattle.tables.specs.Looking.{first_record}
+use Rattle.tables.proofs.Scanning.{record_from, record_start, record_turn, record_here, record_none}
 use Rattle.tables.proofs.finding.first_record.Statement.{statement}
 use Rattle.tables.proofs.finding.first_record.Tie as tie
 
 abbrev invariant-loop : tie.invariant-loop
-invariant-loop table k h i₀ at₀ i at = (i ≤ k) × (at ≡ recordSize * i) × (firstRecord k 0 table h ≡ recordFrom table k h i at)
+invariant-loop table k h i₀ at₀ i at = (i ≤ k) × (at ≡ record_size * i) × (first_record k 0 table h ≡ record_from table k h i at)
 
 abbrev decreases-loop : tie.decreases-loop
 decreases-loop table k h i₀ at₀ i at = k - i
 
 loop-holds : tie.Need-loop-init invariant-loop decreases-loop
-loop-holds c = (omega arith, omega arith, record-start _ _ _)
+loop-holds c = (omega arith, omega arith, record_start _ _ _)
 
 sub-matches-record : tie.Need-overflow-sub-matches-record invariant-loop decreases-loop
 sub-matches-record c = omega arith
@@ -52,7 +52,7 @@ returns : tie.Need-returns invariant-loop decreases-loop
 returns c =
     let l = c.before.before.before.before.before.before.before.loop in
     sym
-    (l.invariant.2 ∙ record-here _ _ _ _ _ (omega arith) c.before.before.before.before.matches-record.ensures c.before.before.before.if1.true c.before.wide.ensures)
+    (l.invariant.2 ∙ record_here _ _ _ _ _ (omega arith) c.before.before.before.before.matches-record.ensures c.before.before.before.if1.true c.before.wide.ensures)
 
 add_at : tie.Need-overflow-add-at invariant-loop decreases-loop
 add_at c = omega arith
@@ -66,10 +66,10 @@ loop-less c = omega arith
 loop-again : tie.Need-loop-preserved invariant-loop decreases-loop
 loop-again c =
     let l = c.before.before.before.before.loop in
-    (omega arith, omega arith, l.invariant.2 ∙ record-turn _ _ _ _ _ (omega arith) c.before.matches-record.ensures c.if1.false)
+    (omega arith, omega arith, l.invariant.2 ∙ record_turn _ _ _ _ _ (omega arith) c.before.matches-record.ensures c.if1.false)
 
 returns-2 : tie.Need-returns-2 invariant-loop decreases-loop
-returns-2 c = sym (c.before.loop.invariant.2 ∙ record-none _ _ _ _ _ (omega arith))
+returns-2 c = sym (c.before.loop.invariant.2 ∙ record_none _ _ _ _ _ (omega arith))
 
 pub first-record-spec : {M : Type 1} → statement M
 first-record-spec =

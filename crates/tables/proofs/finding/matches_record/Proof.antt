@@ -3,20 +3,20 @@
 use mathlib.Core.Path.{◌≡◌, sym, ◌∙◌}
 use Prim.Native.Nat.{◌-◌, ◌≤◌}
 use native.Mathlib.Omega.{arith}
-use Rattle.records.specs.Layout.{keySize}
-use Rattle.tables.specs.Looking.{recordMatches?}
-use Rattle.tables.proofs.Gathering.{agreeing, agree-start, agree-turn, agree-end}
+use Rattle.records.specs.Layout.{key_size}
+use Rattle.tables.specs.Looking.{record_matches?}
+use Rattle.tables.proofs.Gathering.{agreeing, agree_start, agree_turn, agree_end}
 use Rattle.tables.proofs.finding.matches_record.Statement.{statement}
 use Rattle.tables.proofs.finding.matches_record.Tie as tie
 
 abbrev invariant-loop : tie.invariant-loop
-invariant-loop t h d₀ j₀ d j = (j ≤ keySize) × (recordMatches? t h ≡ agreeing d t h j)
+invariant-loop t h d₀ j₀ d j = (j ≤ key_size) × (record_matches? t h ≡ agreeing d t h j)
 
 abbrev decreases-loop : tie.decreases-loop
-decreases-loop t h d₀ j₀ d j = keySize - j
+decreases-loop t h d₀ j₀ d j = key_size - j
 
 loop-holds : tie.Need-loop-init invariant-loop decreases-loop
-loop-holds c = (omega arith, agree-start _ _)
+loop-holds c = (omega arith, agree_start _ _)
 
 shared-slice-read-differing : tie.Need-shared-slice-read-differing invariant-loop decreases-loop
 shared-slice-read-differing c = omega arith
@@ -42,10 +42,10 @@ loop-less c = omega arith
 loop-again : tie.Need-loop-preserved invariant-loop decreases-loop
 loop-again c =
     let l = c.before.before.before.before.before.loop in
-    (omega arith, l.invariant.1 ∙ agree-turn _ _ _ _ _ (omega arith) (omega arith) (omega arith) c.differing.ensures)
+    (omega arith, l.invariant.1 ∙ agree_turn _ _ _ _ _ (omega arith) (omega arith) (omega arith) c.differing.ensures)
 
 returns : tie.Need-returns invariant-loop decreases-loop
-returns c = sym (c.before.loop.invariant.1 ∙ agree-end _ _ _ _ (omega arith))
+returns c = sym (c.before.loop.invariant.1 ∙ agree_end _ _ _ _ (omega arith))
 
 pub matches-record-spec : {M : Type 1} → statement M
 matches-record-spec =

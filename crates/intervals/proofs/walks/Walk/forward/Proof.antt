@@ -5,7 +5,7 @@ use mathlib.Core.Path.{ap, ◌∙◌}
 use native.Mathlib.Omega.{arith}
 use lib.Pow.{pow_mono}
 use Rattle.intervals.specs.Walks.{gives}
-use Rattle.intervals.proofs.Steps.{gives-last, gives-on}
+use Rattle.intervals.proofs.Steps.{gives_last, gives_on}
 use Rattle.intervals.proofs.walks.Walk.forward.Statement.{statement}
 use Rattle.intervals.proofs.walks.Walk.forward.Tie as tie
 
@@ -31,13 +31,13 @@ returns : tie.Need-returns
 returns c =
     let w = c.before.before.before.before.args.self in
     let k = c.before.before.before.free-bits in
-    gives-last w k.result _ _ c.before.before.mask.ensures c.before.power.ensures c.if1.true ∙ ap (gives w) k.ensures.is
+    gives_last w k.result _ _ c.before.before.mask.ensures c.before.power.ensures c.if1.true ∙ ap (gives w) k.ensures.is
 
 returns-2 : tie.Need-returns-2
 returns-2 c =
     let w = c.before.before.before.before.args.self in
     let k = c.before.before.before.free-bits in
-    gives-on w k.result _ _ c.before.before.mask.ensures c.before.power.ensures c.if1.false ∙ ap (gives w) k.ensures.is
+    gives_on w k.result _ _ c.before.before.mask.ensures c.before.power.ensures c.if1.false ∙ ap (gives w) k.ensures.is
 
 pub forward-spec : {M : Type 1} → statement M
 forward-spec =
