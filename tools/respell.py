@@ -18,6 +18,8 @@ DECLARED = re.compile(r"^\s*(?:abbrev |unfoldable )?(?:pub )?(?:\| )?([^\s:(){}.
 TOKEN = re.compile(r"[^\s(){}\[\].;,λ:`\"]+")
 MADE = re.compile(r"(^|[\s(:])tie\.|[-_]spec( |$)|statement M|-claims( |$)|^μ-|: Claim")
 
+# Functions of the library beside which a lemma of ours would get the same name.
+LIBRARY = {"bit_and"}
 # Actions as a sheet writes them, which are no names.
 WORDS_OF_SHEETS = ("permit-log", "deny-log")
 
@@ -56,9 +58,9 @@ def main():
     for name in found:
         if name[0].islower() and spelled(name) != name and re.fullmatch(r"[a-zA-Z0-9'?_-]+", name):
             turned[name] = spelled(name)
-    functions = {turned.get(name, name) for name in found if "-" not in name}
+    taken = {turned.get(name, name) for name in found if "-" not in name} | LIBRARY
     for name in turned:
-        if "-" in name and turned[name] in functions:
+        if "-" in name and turned[name] in taken:
             turned[name] += "_lem"
     # Two names must not become one.
     back = collections.defaultdict(set)

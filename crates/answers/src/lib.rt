@@ -1,5 +1,7 @@
 // An answer as document 01 gives it ("When the tablet says no"): 0 where the call is done, else the refusal's number, and
 // then the values that come with it. What is not used is 0. The numbers are named as in specs/Refusals.antt.
+#![tactic(auto)]
+
 pub const WIDTH: u32 = 1;
 
 pub const FIT: u32 = 2;
@@ -27,7 +29,7 @@ pub const LINE: u32 = 20;
 pub const LONG: u32 = 21;
 
 #[repr(C)]
-#[derive(Drop)]
+#[derive(Clone, Copy)]
 pub struct Answer {
     pub no: u32,
     pub a: u32,
@@ -37,7 +39,7 @@ pub struct Answer {
 }
 
 // The lowest index at which something was found.
-#[derive(Drop)]
+#[derive(Clone, Copy)]
 pub enum Lowest {
     None,
     At(usize),

@@ -1,5 +1,7 @@
 // Powers of two, prefix masks, and the questions about binary digits that document 01's count and its largest blocks ask.
 // Everything here serves other crates, so a function may require what its callers have tested.
+#![tactic(auto)]
+
 ghost use Rattle.std.specs.Prelude.{◌≡◌, suc, ◌%◌, ◌^◌, ◌≤◌, ◌<◌};
 ghost use Rattle.bits.specs.Digits.{Apart, Ones};
 ghost use Rattle.bits.specs.Masks.{Power, mask_of};

@@ -32,8 +32,8 @@ same_bits a b =
         let low : a % 2 ≡ b % 2 = sym (low_bit a) ∙ s 0 ∙ low_bit b in
         omega (arith, ih (a / 2) (b / 2) (omega arith) (λ (i : ℕ). half_bit i a ∙ s (suc i) ∙ sym (half_bit i b)))
 
-bit_and : (x m i : ℕ) → bit i (bit_and x m) ≡ min (bit i x) (bit i m)
-bit_and x m i = ap (λ (z : ℕ). z % 2) (and_shr x m i) ∙ omega (arith, and_step (x / 2 ^ i) (m / 2 ^ i))
+bit_and_lem : (x m i : ℕ) → bit i (bit_and x m) ≡ min (bit i x) (bit i m)
+bit_and_lem x m i = ap (λ (z : ℕ). z % 2) (and_shr x m i) ∙ omega (arith, and_step (x / 2 ^ i) (m / 2 ^ i))
 
 -- ---- what a word matches
 
@@ -41,20 +41,20 @@ module _ (w : Word) (x : ℕ) where
   pub match_and : Matches w x → bit_and x w.mask ≡ bit_and w.value w.mask
   match_and a =
       same_bits (bit_and x w.mask) (bit_and w.value w.mask)
-      (λ (i : ℕ). bit_and x w.mask i ∙ go i (le_or_lt (bit i w.mask) 0) ∙ sym (bit_and w.value w.mask i))
+      (λ (i : ℕ). bit_and_lem x w.mask i ∙ go i (le_or_lt (bit i w.mask) 0) ∙ sym (bit_and_lem w.value w.mask i))
     where
       go : (i : ℕ) → (bit i w.mask ≤ 0) ⊎ (0 < bit i w.mask) → min (bit i x) (bit i w.mask) ≡ min (bit i w.value) (bit i w.mask)
       go i (inl z) = omega arith
       go i (inr o) = ap (λ (y : ℕ). min y (bit i w.mask)) (a i (omega arith))
 
   pub and_match : bit_and x w.mask ≡ bit_and w.value w.mask → Matches w x
-  and_match e i o = omega (arith, sym (bit_and x w.mask i) ∙ ap (bit i) e ∙ bit_and w.value w.mask i)
+  and_match e i o = omega (arith, sym (bit_and_lem x w.mask i) ∙ ap (bit i) e ∙ bit_and_lem w.value w.mask i)
 
 -- ---- well-formed words
 
 module _ (n : ℕ) (w : Word) where
   pub formed_and : Formed n w → bit_and w.value w.mask ≡ w.value
-  formed_and f = same_bits (bit_and w.value w.mask) w.value (λ (i : ℕ). bit_and w.value w.mask i ∙ go i (le_or_lt (bit i w.mask) 0))
+  formed_and f = same_bits (bit_and w.value w.mask) w.value (λ (i : ℕ). bit_and_lem w.value w.mask i ∙ go i (le_or_lt (bit i w.mask) 0))
     where
       go : (i : ℕ) → (bit i w.mask ≤ 0) ⊎ (0 < bit i w.mask) → min (bit i w.value) (bit i w.mask) ≡ bit i w.value
       go i (inl z) = omega (arith, f.clear i (omega arith))
@@ -62,7 +62,7 @@ module _ (n : ℕ) (w : Word) where
 
   pub and_formed : bit_and w.value w.mask ≡ w.value → w.value < 2 ^ n → w.mask < 2 ^ n → Formed n w
   and_formed e v m = record {
-    clear = λ (i : ℕ) (z : bit i w.mask ≡ 0). omega (arith, sym (ap (bit i) e) ∙ bit_and w.value w.mask i);
+    clear = λ (i : ℕ) (z : bit i w.mask ≡ 0). omega (arith, sym (ap (bit i) e) ∙ bit_and_lem w.value w.mask i);
     value_fits = v;
     mask_fits = m;
   }

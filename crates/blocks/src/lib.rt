@@ -1,12 +1,14 @@
 // Aligned blocks of an interval (document 01, "Intervals and words"): the lowest largest one, and how many there are.
 // The theory of blocks and ternary words stands beside it, in specs/ and proofs/, for every width.
+#![tactic(auto)]
+
 ghost use Rattle.std.specs.Prelude.{◌≡◌, ◌≤◌, min};
 ghost use Rattle.blocks.specs.Blocks.{Closed};
 ghost use Rattle.blocks.specs.Counting.{count_of};
 ghost use Rattle.blocks.specs.Lowest.{Free};
 
 // A ternary word: a mask bit of 1 means that the bit counts, 0 is a don't care.
-#[derive(Drop)]
+#[derive(Clone, Copy)]
 pub struct Word {
     pub value: u16,
     pub mask: u16,

@@ -1,6 +1,8 @@
 // One rule's records: its protocol word with every source port word with every destination port word, in that nesting;
 // how many they are, and writing them. Each port has its loop in a function of its own, which hands back where the next
 // record goes.
+#![tactic(auto)]
+
 ghost use Rattle.std.specs.Prelude.{◌≡◌, ◌*◌, ◌+◌, ◌-◌, ◌≤◌, length};
 ghost use Rattle.bits.specs.Masks.{mask_of};
 ghost use Rattle.records.specs.Layout.{record_size};
@@ -12,7 +14,7 @@ use records::{Key, RECORD_SIZE, Rule};
 // The records of one source word, which stands in value and mask, with every destination word.
 fn put_row(t: &mut [u8], at: usize, value: Key, mask: Key, r: Rule, number: u8) -> usize
     requires good { Good r }
-    requires r_in_bounds { at + record_size * length (port_row value mask r number (dest_words r)) ≤ length t.old }
+    requires room { at + record_size * length (port_row value mask r number (dest_words r)) ≤ length t.old }
     ensures { Wrote t.old t.new at (port_row value mask r number (dest_words r)) result }
 {
     let end = fields::half(r.dhigh) + 1;
@@ -44,7 +46,7 @@ fn put_row(t: &mut [u8], at: usize, value: Key, mask: Key, r: Rule, number: u8) 
 // The records of one protocol word, which stands in value and mask: a row for every source word.
 fn put_rows(t: &mut [u8], at: usize, value: Key, mask: Key, r: Rule, number: u8) -> usize
     requires good { Good r }
-    requires r_in_bounds { at + record_size * length (port_rows value mask r number (source_words r)) ≤ length t.old }
+    requires room { at + record_size * length (port_rows value mask r number (source_words r)) ≤ length t.old }
     ensures { Wrote t.old t.new at (port_rows value mask r number (source_words r)) result }
 {
     let end = fields::half(r.shigh) + 1;
@@ -102,7 +104,7 @@ fn proto_mask(r: Rule) -> u8
 // Writes a rule's records at the start of what is lent, and hands back how many bytes they take.
 pub fn put_rule(t: &mut [u8], r: Rule, number: u8) -> usize
     requires good { Good r }
-    requires r_in_bounds { record_size * length (rule_entries number r) ≤ length t.old }
+    requires room { record_size * length (rule_entries number r) ≤ length t.old }
     ensures { Wrote t.old t.new 0 (rule_entries number r) result }
 {
     let value = Key {

@@ -1,4 +1,6 @@
 // Big-endian numbers in a byte slice (document 01: "Numbers are big-endian"), read and written in place.
+#![tactic(auto)]
+
 ghost use Rattle.std.specs.Prelude.{[], ◌∷◌, ◌≡◌, ◌+◌, ◌≤◌, length};
 ghost use Rattle.fields.specs.Bytes.{Byte, Half, at2, at4, be2, be4};
 ghost use Rattle.fields.specs.Writes.{write_at};

@@ -5,14 +5,14 @@ ghost use Rattle.intervals.specs.Bounds.{closed_as, closing, ends, place};
 
 use crate::ends::Fault;
 
-#[derive(Drop)]
+#[derive(Clone, Copy)]
 pub enum Closed {
     Range { low: u32, high: u32 },
     Refused(Fault),
 }
 
 // Where a bound stands: how far past -1, or outside -1..top.
-#[derive(Drop)]
+#[derive(Clone, Copy)]
 enum Place {
     Past(u32),
     Outside,

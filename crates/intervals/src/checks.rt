@@ -7,7 +7,7 @@ ghost use Rattle.intervals.specs.Checks.{agree?, checked_as, checking, first_ill
 use crate::ends::{Fault, Tested, test_ends};
 use answers::Lowest;
 
-#[derive(Drop)]
+#[derive(Clone, Copy)]
 pub enum Checked {
     Yes,
     // The smallest value on which the words and the interval disagree.
@@ -35,8 +35,8 @@ fn formed(n: u32, value: u16, mask: u16) -> bool
 
 // The lowest index of an ill-formed word.
 fn first_ill(n: u32, list: &[u16], k: usize) -> Lowest
-    requires n_bound { n ≤ 16 }
-    requires k_in_bounds { 2 * k ≤ length list.now }
+    requires width { n ≤ 16 }
+    requires words { 2 * k ≤ length list.now }
     ensures { result ≡ first_ill n 0 (words_from 0 k list.now) }
 {
     let mut i: usize = 0;
@@ -67,8 +67,8 @@ fn some_match(list: &[u16], k: usize, x: u16) -> bool
 
 // The interval and the words agree at x.
 fn agrees(low: u32, high: u32, list: &[u16], k: usize, x: u32) -> bool
-    requires k_in_bounds { 2 * k ≤ length list.now }
-    requires x_bound { x < 65536 }
+    requires words { 2 * k ≤ length list.now }
+    requires value { x < 65536 }
     ensures { result ≡ agree? low high (words_from 0 k list.now) x }
 {
     let m = some_match(list, k, x as u16);
@@ -83,8 +83,8 @@ fn agrees(low: u32, high: u32, list: &[u16], k: usize, x: u32) -> bool
 
 // The answer where all words are well formed.
 fn judge(n: u32, low: u32, high: u32, list: &[u16], k: usize) -> Checked
-    requires k_in_bounds { 2 * k ≤ length list.now }
-    requires n_bound { n ≤ 16 }
+    requires words { 2 * k ≤ length list.now }
+    requires width { n ≤ 16 }
     ensures { checked_as result ≡ verdict (2 ^ n) 0 low high (words_from 0 k list.now) }
 {
     let size = bits::power(n);

@@ -2,7 +2,7 @@
 ghost use Rattle.std.specs.Prelude.{◌≡◌};
 ghost use Rattle.intervals.specs.Ends.{tested};
 
-#[derive(Drop)]
+#[derive(Clone, Copy)]
 pub enum Fault {
     // 1: the width is not 1..16.
     Width,
@@ -12,7 +12,7 @@ pub enum Fault {
     Order,
 }
 
-#[derive(Drop)]
+#[derive(Clone, Copy)]
 pub enum Tested {
     Good,
     Bad(Fault),

@@ -7,6 +7,8 @@
 //   check       somebody else's ternary words against an interval
 //
 // Each takes any numbers, refuses what is bad itself, and is settled by the definition that its contract cites.
+#![tactic(auto)]
+
 mod bounds;
 mod checks;
 mod ends;

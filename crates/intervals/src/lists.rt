@@ -6,7 +6,7 @@ ghost use Rattle.intervals.specs.Lists.{Listing, counted_as, counting, listed_as
 
 use crate::ends::{Fault, Tested, test_ends};
 
-#[derive(Drop)]
+#[derive(Clone, Copy)]
 pub enum Counted {
     Words(u32),
     Refused(Fault),
@@ -21,7 +21,7 @@ pub fn count(n: u32, low: u32, high: u32) -> Counted
     }
 }
 
-#[derive(Drop)]
+#[derive(Clone, Copy)]
 pub enum Listed {
     Words(u32),
     // 4: fewer than twice as many numbers of room as this many words take.
@@ -32,7 +32,7 @@ pub enum Listed {
 // Writes a closed interval's words to a list that has room for them.
 fn fill(n: u32, low: u32, high: u32, out: &mut [u16])
     requires closed { Closed n low high }
-    requires high_in_bounds { length (numbers_of n low high) ≤ length out.old }
+    requires room { length (numbers_of n low high) ≤ length out.old }
     ensures { out.new ≡ write_at out.old 0 (numbers_of n low high) }
 {
     let end = high + 1;

@@ -7,7 +7,7 @@ ghost use Rattle.intervals.specs.Walks.{gives, stepped_as, stepping};
 use crate::ends::{Fault, Tested, test_ends};
 use blocks::Word;
 
-#[derive(Drop)]
+#[derive(Clone, Copy)]
 pub struct Walk {
     pub width: u32,
     pub next: u32,
@@ -15,7 +15,7 @@ pub struct Walk {
     pub ended: bool,
 }
 
-#[derive(Drop)]
+#[derive(Clone, Copy)]
 pub enum Gave {
     Next,
     NoMore,
@@ -23,7 +23,7 @@ pub enum Gave {
 }
 
 // What a step gives, its word (zeros unless it gave the next one), and the state after it.
-#[derive(Drop)]
+#[derive(Clone, Copy)]
 pub struct Step {
     pub gave: Gave,
     pub word: Word,

@@ -1,5 +1,7 @@
 // The source papers' tables, worked out anew by this library's own calls: no result is written down here. The file stdout
 // has the papers' figures; where theorem 4.1 leaves the whole width out, it counts, as document 01 says.
+#![tactic(auto)]
+
 mod exact;
 mod open;
 mod ports;

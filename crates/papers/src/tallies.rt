@@ -3,13 +3,13 @@ use crate::exact;
 use intervals::Counted;
 
 // How many intervals have t words, at t.
-#[derive(Drop)]
+#[derive(Clone, Copy)]
 pub struct Tally {
     pub having: [u64; 32],
 }
 
 // What a tally adds up to: intervals, their words, and the squares of their words.
-#[derive(Drop)]
+#[derive(Clone, Copy)]
 pub struct Sums {
     pub intervals: u64,
     pub words: u64,

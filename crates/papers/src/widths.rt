@@ -50,7 +50,7 @@ pub fn means(all: [Tally; 13]) {
 }
 
 // What table 5 adds to the mean.
-#[derive(Drop)]
+#[derive(Clone, Copy)]
 enum Limit {
     OneDeviation,
     TwoDeviations,

@@ -1,5 +1,7 @@
 // The layouts of document 01 ("Rule, header and table records"): a header, a rule and a table record, as bytes and as numbers.
 // Sizes, offsets and limits are named here and in specs/ and nowhere else.
+#![tactic(auto)]
+
 ghost use Rattle.std.specs.Prelude.{◌≡◌, ◌+◌, ◌≤◌, length};
 ghost use Rattle.fields.specs.Writes.{write_at};
 ghost use Rattle.records.specs.Keys.{key_at, key_bytes};
@@ -31,7 +33,7 @@ pub const NUMBER_AT: usize = 2 * KEY_SIZE;
 pub const ACTION_AT: usize = NUMBER_AT + 1;
 
 // What a header, a value or a mask holds.
-#[derive(Drop)]
+#[derive(Clone, Copy)]
 pub struct Key {
     pub proto: u8,
     pub src: u32,
@@ -41,7 +43,7 @@ pub struct Key {
 }
 
 // A rule's 21 bytes as numbers.
-#[derive(Drop)]
+#[derive(Clone, Copy)]
 pub struct Rule {
     pub flag: u8,
     pub proto: u8,

@@ -4,7 +4,7 @@ ghost use Rattle.rules.specs.Faults.{bad_field, beyond?, spare?, tested_rules};
 
 use records::{LAST_ACTION, RULE_LIMIT, RULE_SIZE, Rule};
 
-#[derive(Drop)]
+#[derive(Clone, Copy)]
 pub enum ListFault {
     // 5: the length is no multiple of a rule's.
     Odd,
@@ -14,7 +14,7 @@ pub enum ListFault {
     Bad(u32, u8),
 }
 
-#[derive(Drop)]
+#[derive(Clone, Copy)]
 pub enum ListTest {
     Good,
     Refused(ListFault),

@@ -9,7 +9,7 @@ ghost use Rattle.rules.specs.declared.faults.ListTest.TheVariants.{Good};
 use crate::faults::{ListFault, ListTest, test_rules};
 use records::{KEY_SIZE, Key, RULE_SIZE, Rule};
 
-#[derive(Drop)]
+#[derive(Clone, Copy)]
 pub enum Found {
     // The first matching rule's number from 0, and its action.
     Rule(u32, u8),

@@ -4,6 +4,8 @@
 //   find_rule   the first rule that matches a header
 //
 // A list is the rules' 21-byte records, one after the other. Any bytes may come.
+#![tactic(auto)]
+
 mod faults;
 mod finding;
 

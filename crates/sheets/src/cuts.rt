@@ -4,7 +4,7 @@ ghost use Rattle.fields.specs.Same.{same?};
 ghost use Rattle.sheets.specs.Cuts.{Cuts, times};
 
 // Where the part before a mark ends, and where the part after it begins.
-#[derive(Drop)]
+#[derive(Clone, Copy)]
 pub struct Places {
     pub end: usize,
     pub next: usize,

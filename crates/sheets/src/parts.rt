@@ -18,14 +18,14 @@ const SLASH: u8 = 47;
 
 const DASH: u8 = 45;
 
-#[derive(Drop)]
+#[derive(Clone, Copy)]
 pub struct Address {
     pub good: bool,
     pub bits: u32,
     pub len: u8,
 }
 
-#[derive(Drop)]
+#[derive(Clone, Copy)]
 pub struct Ports {
     pub good: bool,
     pub low: u16,

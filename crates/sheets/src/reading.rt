@@ -13,7 +13,7 @@ const LINE_FEED: u8 = 10;
 // The most bytes of a sheet.
 pub const SHEET_LIMIT: usize = 65536;
 
-#[derive(Drop)]
+#[derive(Clone, Copy)]
 pub enum Sheet {
     // 21: the sheet is too long.
     Long,

@@ -8,14 +8,14 @@ use records::{LAST_ACTION, Rule};
 
 const TAB: u8 = 9;
 
-#[derive(Drop)]
+#[derive(Clone, Copy)]
 pub enum Row {
     Good(Rule),
     // The first bad field, or 0 where there are not six.
     Bad(u32),
 }
 
-#[derive(Drop)]
+#[derive(Clone, Copy)]
 pub enum Rows {
     // So many lines, all good.
     Good(u32),

@@ -1,5 +1,7 @@
 // Reads a rule sheet on standard input and prints the words of its rules, one a line, and then how many there are; or why the
 // sheet is refused (document 02, order 1). What is read, compiled and written as text is the library's work.
+#![tactic(auto)]
+
 ghost use Rattle.std.specs.Prelude.{◌*◌, ◌-◌, ◌≤◌, length};
 ghost use Rattle.records.specs.Layout.{record_size, word_limit};
 ghost use Rattle.sheetwords.specs.Pieces.{piece_size};

@@ -13,5 +13,5 @@ pub mod RuleWords
 pub mod AllBits
 pub mod FormedTable
 pub mod Demand2
-pub mod Compiled
+pub mod CompiledFinds
 pub mod Settled

@@ -12,7 +12,7 @@ ghost use Rattle.tables.specs.Compiling.{Compiling, compiled_as};
 use records::{RECORD_SIZE, RULE_SIZE, WORD_LIMIT};
 use rules::{ListFault, ListTest};
 
-#[derive(Drop)]
+#[derive(Clone, Copy)]
 pub enum Compiled {
     Words(u32),
     Refused(ListFault),
@@ -39,8 +39,8 @@ fn total(rules: &[u8]) -> u32
 
 // Writes the records of all rules of a well-formed list, each rule's on from the first free record.
 fn fill(rules: &[u8], table: &mut [u8])
-    requires rules_value { tested_rules rules.now ≡ test.Good }
-    requires rules_in_bounds { record_size * needed (all_rules rules.now) ≤ length table.old }
+    requires good { tested_rules rules.now ≡ test.Good }
+    requires room { record_size * needed (all_rules rules.now) ≤ length table.old }
     ensures { table.new ≡ write_at table.old 0 (table_bytes (entries_of 0 (all_rules rules.now))) }
 {
     let n = rules.len() / RULE_SIZE;

@@ -8,7 +8,7 @@ use crate::compiling::room;
 use answers::Lowest;
 use records::{ACTION_AT, KEY_SIZE, LAST_ACTION, MASK_AT, NUMBER_AT, RECORD_SIZE};
 
-#[derive(Drop)]
+#[derive(Clone, Copy)]
 pub enum Found {
     // The first matching record's index, its rule number and its action.
     Record { index: u32, rule: u32, action: u8 },
@@ -31,8 +31,8 @@ fn differing(d: u8, x: u8, mask: u8, value: u8) -> u8
 
 // The record at the start of t matches the header.
 fn matches_record(t: &[u8], h: &[u8]) -> bool
-    requires record_size_in_bounds { record_size ≤ length t.now }
-    requires h_len { length h.now ≡ key_size }
+    requires held { record_size ≤ length t.now }
+    requires header { length h.now ≡ key_size }
     ensures { result ≡ record_matches? t.now h.now }
 {
     let mut d: u8 = 0;
@@ -82,7 +82,7 @@ fn wide(x: u8) -> u32
 // The first of the k records that matches.
 fn first_record(table: &[u8], k: usize, h: &[u8]) -> Found
     requires fit { Fit k table.now }
-    requires h_len { length h.now ≡ key_size }
+    requires header { length h.now ≡ key_size }
     ensures { found_as result ≡ first_record k 0 table.now h.now }
 {
     let mut i: usize = 0;

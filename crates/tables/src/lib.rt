@@ -5,6 +5,8 @@
 //   find_word   the first record of a table that matches a header
 //
 // Everything is tested before anything is written, so a refused call leaves the table as it was.
+#![tactic(auto)]
+
 mod compiling;
 mod finding;
 

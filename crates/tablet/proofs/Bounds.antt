@@ -15,7 +15,7 @@ use Rattle.records.specs.Layout.{rule_limit, rule_size, word_limit}
 use Rattle.sheets.specs.Reading.{Reading, behind_rows, many?, reading, rows_of, sheet_limit}
 use Rattle.sheets.specs.declared.rows.Rows.{Rows}
 use Rattle.sheets.specs.declared.rows.Rows.TheVariants as rows
-use Rattle.tables.proofs.Compiled.{taken, was_taken}
+use Rattle.tables.proofs.CompiledFinds.{taken, was_taken}
 use Rattle.tables.specs.Compiling.{Compiling}
 
 -- the words of a compiled list are at most those of a table

@@ -1,5 +1,7 @@
 // The C face: one exported function for each call, with no logic of its own. Each hands its arguments on and
 // turns the answer into document 01's number and values. include/ashkavorz.h declares them for C.
+#![tactic(auto)]
+
 mod convert;
 mod steps;
 

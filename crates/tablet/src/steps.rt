@@ -7,7 +7,7 @@ use crate::convert::fault_number;
 use intervals::Gave;
 
 #[repr(C)]
-#[derive(Drop)]
+#[derive(Clone, Copy)]
 pub struct Walk {
     pub width: u32,
     pub next: u32,
@@ -16,7 +16,7 @@ pub struct Walk {
 }
 
 #[repr(C)]
-#[derive(Drop)]
+#[derive(Clone, Copy)]
 pub struct Step {
     pub no: u32,
     pub given: u32,

@@ -1,4 +1,6 @@
 // Numbers, bytes and table records as text, written into a lent buffer.
+#![tactic(auto)]
+
 ghost use Rattle.std.specs.Prelude.{[], ◌++◌, ◌∷◌, ◌≡◌, ◌*◌, ◌+◌, ◌<◌, ◌≤◌, length};
 ghost use Rattle.records.specs.Layout.{record_size};
 ghost use Rattle.texts.specs.Decimal.{decimal};
@@ -12,8 +14,8 @@ pub const LINE_SIZE: usize = 80;
 
 // Writes x in decimal at `at`; the place after it.
 pub fn put_decimal(t: &mut [u8], at: usize, x: u32) -> usize
-    requires at_in_bounds { at + 5 ≤ length t.old }
-    requires x_bound { x < 100000 }
+    requires room { at + 5 ≤ length t.old }
+    requires few { x < 100000 }
     ensures { Puts t.old at (decimal x) result t.new }
 {
     let mut to = at;
@@ -82,8 +84,8 @@ fn put_action(t: &mut [u8], at: usize, action: u8) -> usize
 
 // Writes x in decimal, and a tab.
 fn put_number(t: &mut [u8], at: usize, x: u32) -> usize
-    requires at_in_bounds { at + 6 ≤ length t.old }
-    requires x_bound { x < 100000 }
+    requires room { at + 6 ≤ length t.old }
+    requires few { x < 100000 }
     ensures { Puts t.old at (decimal x ++ (tab ∷ [])) result t.new }
 {
     let to = put_decimal(t, at, x);
@@ -103,9 +105,9 @@ fn put_bytes(t: &mut [u8], at: usize, s: &[u8]) -> usize
 
 // Writes the line of the record at the start of s, which has this index.
 pub fn put_word(t: &mut [u8], at: usize, index: u32, s: &[u8]) -> usize
-    requires line_size_in_bounds { at + line_size ≤ length t.old }
-    requires index_bound { index < 100000 }
-    requires record_size_in_bounds { record_size ≤ length s.now }
+    requires room { at + line_size ≤ length t.old }
+    requires few { index < 100000 }
+    requires held { record_size ≤ length s.now }
     ensures { Puts t.old at (word_line index s.now) result t.new }
 {
     let a = put_number(t, at, index);

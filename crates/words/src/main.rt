@@ -1,5 +1,7 @@
 // The prefix words of document 01's intervals, as a person reads them: each word in its bits, with * for a don't care, and
 // the values that it matches.
+#![tactic(auto)]
+
 use blocks::Word;
 use intervals::{Gave, Step, Walk};
 use libc::STDOUT_FILENO;

@@ -1,0 +1,10 @@
+-- `rules::faults::test_rules` meets its contract: the answer stays that of the rules that are left. Assumes nothing.
+use Prim.Native.Nat.{◌-◌}
+use Rattle.rules.proofs.Turning.{Tested}
+use Rattle.rules.proofs.faults.test_rules.Given as goal
+
+abbrev pub invariant-loop-i : goal.invariant-loop-i
+invariant-loop-i l = Tested l.rules l.i l.at
+
+abbrev pub decreases-loop-i : goal.decreases-loop-i
+decreases-loop-i l = l.n - l.i

@@ -1,0 +1,10 @@
+-- `rules::finding::first_rule` meets its contract: the answer stays that of the rules that are left. Assumes nothing.
+use Prim.Native.Nat.{◌-◌}
+use Rattle.rules.proofs.Turning.{Sought}
+use Rattle.rules.proofs.finding.first_rule.Given as goal
+
+abbrev pub invariant-loop-i : goal.invariant-loop-i
+invariant-loop-i l = Sought l.rules l.h l.i l.at
+
+abbrev pub decreases-loop-i : goal.decreases-loop-i
+decreases-loop-i l = l.n - l.i
