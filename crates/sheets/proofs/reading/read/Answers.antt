@@ -24,7 +24,7 @@ slice_bounds-held-end c = omega (arith, rules_few _ _ _ _ _ c.read_rows.ensures 
 
 pub slice_bounds-put_text-end : goal.slice_bounds-put_text-end
 slice_bounds-put_text-end c =
-    sym (length-take-le _ c.read_rows.new.1.0 (omega (arith, rules_few _ _ _ _ _ c.read_rows.ensures c.in-Good.is, c.read_rows.auto.1.0)))
+    sym (length-take-le _ c.read_rows.new.held (omega (arith, rules_few _ _ _ _ _ c.read_rows.ensures c.in-Good.is, c.read_rows.auto.held)))
 
 pub put_text-requires : goal.put_text-requires
 put_text-requires c = simp length-take (omega arith)

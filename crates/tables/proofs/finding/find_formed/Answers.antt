@@ -7,4 +7,4 @@ pub returns-then-header-ne-KEY_SIZE : goal.returns-then-header-ne-KEY_SIZE
 returns-then-header-ne-KEY_SIZE c = formed_header _ _ _ c.if-header-ne-KEY_SIZE.true
 
 pub returns : goal.returns
-returns c = c.first_record_lem.ensures ∙ sym (formed_found _ _ _ c.if-header-ne-KEY_SIZE.false)
+returns c = c.first_record.ensures ∙ sym (formed_found _ _ _ c.if-header-ne-KEY_SIZE.false)
