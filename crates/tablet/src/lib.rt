@@ -1,5 +1,5 @@
-// The C face: one exported function for each call, with no logic of its own. Each hands its arguments on and
-// turns the answer into document 01's number and values. include/ashkavorz.h declares them for C.
+// The C face: one function for each call, with no logic of its own. Each hands its arguments on and turns the answer into
+// document 01's number and values. The crate tablet_c exports them, and include/ashkavorz.h declares them for C.
 #![tactic(auto)]
 
 mod convert;
@@ -18,64 +18,55 @@ ghost use Rattle.tablet.specs.Faces.{in32, step_face};
 use answers::Answer;
 pub use steps::{Step, Walk};
 
-#[unsafe(no_mangle)]
-pub extern "C" fn ashkavorz_close(width: u32, a: i32, b: i32) -> Answer
+pub fn ashkavorz_close(width: u32, a: i32, b: i32) -> Answer
     ensures { result ≡ closing width a b }
 {
     convert::closed(intervals::close(width, a, b))
 }
 
-#[unsafe(no_mangle)]
-pub extern "C" fn ashkavorz_count(width: u32, low: u32, high: u32) -> Answer
+pub fn ashkavorz_count(width: u32, low: u32, high: u32) -> Answer
     ensures { result ≡ counting width low high }
 {
     convert::counted(intervals::count(width, low, high))
 }
 
-#[unsafe(no_mangle)]
-pub extern "C" fn ashkavorz_list(width: u32, low: u32, high: u32, out: &mut [u16]) -> Answer
+pub fn ashkavorz_list(width: u32, low: u32, high: u32, out: &mut [u16]) -> Answer
     ensures { Listing width low high out.old result out.new }
 {
     convert::listed(intervals::list(width, low, high, out))
 }
 
-#[unsafe(no_mangle)]
-pub extern "C" fn ashkavorz_step(walk: Walk) -> Step
+pub fn ashkavorz_step(walk: Walk) -> Step
     ensures { result ≡ step_face walk }
 {
     steps::stepped(walk, steps::walk_in(walk).step())
 }
 
-#[unsafe(no_mangle)]
-pub extern "C" fn ashkavorz_check(width: u32, low: u32, high: u32, list: &[u16], k: usize) -> Answer
+pub fn ashkavorz_check(width: u32, low: u32, high: u32, list: &[u16], k: usize) -> Answer
     ensures { result ≡ in32 (checking width low high list.now k) }
 {
     convert::checked(intervals::check(width, low, high, list, k))
 }
 
-#[unsafe(no_mangle)]
-pub extern "C" fn ashkavorz_compile(rules: &[u8], table: &mut [u8]) -> Answer
+pub fn ashkavorz_compile(rules: &[u8], table: &mut [u8]) -> Answer
     ensures { Compiling rules.now table.old result table.new }
 {
     convert::compiled(tables::compile(rules, table))
 }
 
-#[unsafe(no_mangle)]
-pub extern "C" fn ashkavorz_find_rule(rules: &[u8], header: &[u8]) -> Answer
+pub fn ashkavorz_find_rule(rules: &[u8], header: &[u8]) -> Answer
     ensures { result ≡ finding rules.now header.now }
 {
     convert::found_rule(rules::find_rule(rules, header))
 }
 
-#[unsafe(no_mangle)]
-pub extern "C" fn ashkavorz_find_word(table: &[u8], k: usize, header: &[u8]) -> Answer
+pub fn ashkavorz_find_word(table: &[u8], k: usize, header: &[u8]) -> Answer
     ensures { result ≡ looking table.now k header.now }
 {
     convert::found_word(tables::find_word(table, k, header))
 }
 
-#[unsafe(no_mangle)]
-pub extern "C" fn ashkavorz_read_sheet(text: &[u8], rules: &mut [u8]) -> Answer
+pub fn ashkavorz_read_sheet(text: &[u8], rules: &mut [u8]) -> Answer
     ensures { Reading text.now rules.old result rules.new }
 {
     convert::sheet(sheets::read(text, rules))

@@ -1,6 +1,5 @@
 -- `entries::put_row` meets its contract: at each turn the records of the destination words from next on are left.
 -- Assumes nothing.
-use Prim.Native.Nat.{◌-◌}
 use native.Mathlib.Omega.{arith}
 use Rattle.entries.proofs.WordByWord.{putting_start, putting_room, putting_end, row_joins, row_more}
 use Rattle.entries.proofs.put_row.Goals as goal

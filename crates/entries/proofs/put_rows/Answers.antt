@@ -1,6 +1,5 @@
 -- `entries::put_rows` meets its contract: at each turn the rows of the source words from next on are left.
 -- Assumes nothing.
-use Prim.Native.Nat.{◌-◌}
 use native.Mathlib.Omega.{arith}
 use Rattle.entries.proofs.WordByWord.{putting_start, putting_room, putting_more, putting_end, rows_joins}
 use Rattle.entries.proofs.put_rows.Goals as goal

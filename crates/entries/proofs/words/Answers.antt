@@ -11,6 +11,6 @@ returns c =
 pub overflow_mul-result : goal.overflow_mul-result
 overflow_mul-result c =
     let k =
-      word_count _ _ _ _ _ _ _ c.requires c.half.ensures c.half-2.ensures
-      c.half-3.ensures c.half-4.ensures c.count-s.ensures c.count-d.ensures in
+    word_count _ _ _ _ _ _ _ c.requires c.half.ensures c.half-2.ensures
+    c.half-3.ensures c.half-4.ensures c.count-s.ensures c.count-d.ensures in
     omega (arith, k.small)

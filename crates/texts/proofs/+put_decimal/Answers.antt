@@ -9,8 +9,8 @@ use Rattle.texts.proofs.+put_decimal.Goals.{Joined-x-ge10, then-x-ge10, else-x-g
 earlier : (t : ℕ) (c : Joined-x-ge10 t) → Earlier c.args.t.now c.args.at c.args.x c.if-x-ge10.to c.if-x-ge10.t
 earlier t c =
     elim c.if-x-ge10.branch [
-      then-x-ge10 w ↦ earlier_more _ _ _ _ _ _ _ w.if-x-ge10.true c.requires.few w.put_decimal-to.ensures w.t-is w.to-is
-    | else-x-ge10 w ↦ earlier_none _ _ _ _ _ w.if-x-ge10.false w.t-is w.to-is
+      | then-x-ge10 w ↦ earlier_more _ _ _ _ _ _ _ w.if-x-ge10.true c.requires.few w.put_decimal-to.ensures w.t-is w.to-is
+      | else-x-ge10 w ↦ earlier_none _ _ _ _ _ w.if-x-ge10.false w.t-is w.to-is
     ]
 
 pub put1-requires : goal.put1-requires

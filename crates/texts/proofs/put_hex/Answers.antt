@@ -1,5 +1,4 @@
 -- `texts::put_hex` meets its contract: at each turn the digits of the first i bytes are put. Assumes nothing.
-use Prim.Native.Nat.{◌-◌}
 use native.Mathlib.Omega.{arith}
 use Rattle.texts.proofs.ByteByByte.{putting_end, putting_more, putting_start}
 use Rattle.texts.proofs.HexBytes.{hex_byte, hex_joins, hex_length, hex_room}

@@ -1,5 +1,4 @@
 -- `texts::put_text` meets its contract: at each turn the first i bytes are put. Assumes nothing.
-use Prim.Native.Nat.{◌-◌}
 use native.Mathlib.Omega.{arith}
 use Rattle.texts.proofs.Behind.{puts_one}
 use Rattle.texts.proofs.ByteByByte.{bytes_join, putting_end, putting_more, putting_room, putting_start}

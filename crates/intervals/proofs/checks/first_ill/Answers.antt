@@ -1,6 +1,5 @@
 -- `intervals::checks::first_ill` meets its contract: the answer stays that of the words that are left. Assumes nothing.
 use mathlib.Core.Path.{sym, ◌∙◌}
-use Prim.Native.Nat.{◌-◌}
 use native.Mathlib.Omega.{arith}
 use Rattle.intervals.proofs.Judging.{ill_start, ill_turn, ill_here, ill_none}
 use Rattle.intervals.proofs.checks.first_ill.Goals as goal

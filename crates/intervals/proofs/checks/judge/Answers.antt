@@ -1,6 +1,5 @@
 -- `intervals::checks::judge` meets its contract: the verdict stays that of the values that are left. Assumes nothing.
 use mathlib.Core.Path.{sym, ◌∙◌}
-use Prim.Native.Nat.{◌-◌}
 use native.Mathlib.Omega.{arith}
 use Rattle.intervals.proofs.Judging.{verdict_start, verdict_turn, verdict_here, verdict_done}
 use Rattle.intervals.proofs.checks.judge.Goals as goal

@@ -5,7 +5,7 @@ use Rattle.intervals.specs.Checks.{verdict, words_from}
 use Rattle.intervals.proofs.checks.judge.Given as goal
 
 abbrev pub invariant-loop-x : goal.invariant-loop-x
-invariant-loop-x l = 
+invariant-loop-x l =
     let ws = words_from 0 l.k l.list in
     (l.x ≤ 2 ^ l.n) × (verdict (2 ^ l.n) 0 l.low l.high ws ≡ verdict (2 ^ l.n - l.x) l.x l.low l.high ws)
 

@@ -1,6 +1,5 @@
 -- `intervals::checks::some_match` meets its contract: the answer stays that of the words that are left. Assumes nothing.
 use mathlib.Core.Path.{sym, ◌∙◌}
-use Prim.Native.Nat.{◌-◌}
 use native.Mathlib.Omega.{arith}
 use Rattle.intervals.proofs.Judging.{some_start, some_turn, some_here, some_none}
 use Rattle.intervals.proofs.checks.some_match.Goals as goal

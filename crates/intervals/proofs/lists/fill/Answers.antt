@@ -1,6 +1,5 @@
 -- `intervals::lists::fill` meets its contract: at each turn what is written and the words that are left make up the list.
 -- Assumes nothing.
-use Prim.Native.Nat.{◌-◌}
 use native.Mathlib.Omega.{arith}
 use lib.ListN.{length-set}
 use lib.Pow.{pow_mono}

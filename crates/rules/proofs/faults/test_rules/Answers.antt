@@ -1,5 +1,4 @@
 -- `rules::faults::test_rules` meets its contract: the answer stays that of the rules that are left. Assumes nothing.
-use Prim.Native.Nat.{◌-◌}
 use native.Mathlib.Omega.{arith}
 use lib.ListN.{length-drop, length-take}
 use Rattle.rules.proofs.Testing.{tested_many, tested_odd}

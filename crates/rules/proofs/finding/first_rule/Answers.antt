@@ -1,5 +1,4 @@
 -- `rules::finding::first_rule` meets its contract: the answer stays that of the rules that are left. Assumes nothing.
-use Prim.Native.Nat.{◌-◌}
 use native.Mathlib.Omega.{arith}
 use lib.ListN.{length-drop, length-take}
 use Rattle.rules.proofs.Goods.{good_list}

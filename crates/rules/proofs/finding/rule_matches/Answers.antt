@@ -44,4 +44,4 @@ returns c =
     let at = goal.at.returns c in
     c.port_matches-2.ensures
     ∙ dest_decides _ _ (proto_same at.Else-not-proto_matches) (src_same at.Else-not-addr_matches) (dst_same at.Else-not-addr_matches-2)
-      (sym c.port_matches.ensures ∙ c.if-not-port_matches.false)
+    (sym c.port_matches.ensures ∙ c.if-not-port_matches.false)

@@ -10,8 +10,8 @@ loop-i-init c = counting_start _ _
 pub loop-i-preserved : goal.loop-i-preserved
 loop-i-preserved c =
     elim c.if-s-i.branch [
-      then-s-i w ↦ rw w.k-is (counting_one _ _ _ _ c.loop-i.invariant (omega arith) w.if-s-i.true)
-    | else-s-i w ↦ rw w.k-is (counting_other _ _ _ _ c.loop-i.invariant (omega arith) w.if-s-i.false)
+      | then-s-i w ↦ rw w.k-is (counting_one _ _ _ _ c.loop-i.invariant (omega arith) w.if-s-i.true)
+      | else-s-i w ↦ rw w.k-is (counting_other _ _ _ _ c.loop-i.invariant (omega arith) w.if-s-i.false)
     ]
 
 pub returns : goal.returns

@@ -1,5 +1,4 @@
 -- `sheets::cuts::cut` meets its contract: no mark stands before i. Assumes nothing.
-use Prim.Native.Nat.{◌-◌}
 use native.Mathlib.Omega.{arith}
 use Rattle.sheets.proofs.Cutting.{cutting_start, cutting_more, cutting_here, cutting_none}
 use Rattle.sheets.proofs.cuts.cut.Goals as goal

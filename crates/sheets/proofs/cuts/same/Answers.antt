@@ -1,6 +1,5 @@
 -- `sheets::cuts::same` meets its contract: the bytes before i agree. Assumes nothing.
 use mathlib.Core.Path.{sym}
-use Prim.Native.Nat.{◌-◌}
 use native.Mathlib.Omega.{arith}
 use Rattle.sheets.proofs.Comparing.{comparing_start, comparing_more, comparing_here, comparing_end, same_even}
 use Rattle.sheets.proofs.cuts.same.Goals as goal

@@ -1,5 +1,4 @@
 -- `sheets::numbers::digits` meets its contract: the digits before i say x. Assumes nothing.
-use Prim.Native.Nat.{◌-◌}
 use native.Mathlib.Omega.{arith}
 use Rattle.sheets.proofs.DigitsSoFar.{said_start, said_end, said_low, said_high, said_large, said_more}
 use Rattle.sheets.proofs.numbers.digits.Goals as goal

@@ -14,6 +14,6 @@ pub returns : goal.returns
 returns c =
     c.digits.ensures
     ∙ elim c.if-s-eq48.branch [
-        then-s-eq48+else-s-ne1 w ↦ number_zero _ w.if-s-ne1.false
+      | then-s-eq48+else-s-ne1 w ↦ number_zero _ w.if-s-ne1.false
       | else-s-eq48 w ↦ number_other _ c.if-s-eq0.false w.if-s-eq48.false
-      ]
+    ]

@@ -1,5 +1,4 @@
 -- `sheets::reading::many` meets its contract: what stands after all lines stands after those that are left. Assumes nothing.
-use Prim.Native.Nat.{◌-◌}
 use native.Mathlib.Omega.{arith}
 use Rattle.sheets.proofs.Passing.{passed_end, passed_more, passed_start}
 use Rattle.sheets.proofs.reading.many.Goals as goal

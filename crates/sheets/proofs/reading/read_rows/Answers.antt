@@ -1,6 +1,5 @@
 -- `sheets::reading::read_rows` meets its contract: what is left of the text completes the verdict and the rules that are held.
 -- Assumes nothing.
-use Prim.Native.Nat.{◌-◌}
 use native.Mathlib.Omega.{arith}
 use Rattle.sheets.proofs.LinesLeft.{lines_all, lines_bad, lines_end, lines_front, lines_more, lines_open, lines_start, lines_within}
 use Rattle.sheets.proofs.reading.read_rows.Goals as goal

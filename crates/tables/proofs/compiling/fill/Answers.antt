@@ -1,6 +1,5 @@
 -- `tables::compiling::fill` meets its contract: what is left to be written completes the table. Each rule's records are
 -- written to the part of the table from the first free record on. Assumes nothing.
-use Prim.Native.Nat.{◌-◌}
 use native.Mathlib.Omega.{arith}
 use lib.ListN.{length-drop, length-take}
 use Rattle.rules.proofs.Goods.{good_list}

@@ -1,5 +1,4 @@
 -- `tables::compiling::total` meets its contract: what is counted and what is left make up the whole. Assumes nothing.
-use Prim.Native.Nat.{◌-◌}
 use native.Mathlib.Omega.{arith}
 use lib.ListN.{length-drop, length-take}
 use Rattle.rules.proofs.Goods.{good_list}

@@ -1,6 +1,5 @@
 -- `tables::finding::first_ill` meets its contract: the answer stays that of the records that are left. Assumes nothing.
 use mathlib.Core.Path.{sym, ◌∙◌}
-use Prim.Native.Nat.{◌-◌}
 use native.Mathlib.Omega.{arith}
 use lib.ListN.{length-take, length-drop}
 use Rattle.tables.proofs.Scanning.{ill_start, ill_turn, ill_here, ill_none}

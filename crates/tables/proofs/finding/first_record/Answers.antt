@@ -1,6 +1,5 @@
 -- `tables::finding::first_record` meets its contract: the answer stays that of the records that are left. Assumes nothing.
 use mathlib.Core.Path.{sym, ◌∙◌}
-use Prim.Native.Nat.{◌-◌}
 use native.Mathlib.Omega.{arith}
 use lib.ListN.{length-take, length-drop}
 use Rattle.tables.proofs.Scanning.{record_start, record_turn, record_here, record_none}

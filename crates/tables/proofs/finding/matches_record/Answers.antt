@@ -1,7 +1,6 @@
 -- `tables::finding::matches_record` meets its contract: what was gathered, and the bytes that are left, say what all bytes
 -- do. Assumes nothing.
 use mathlib.Core.Path.{sym, ◌∙◌}
-use Prim.Native.Nat.{◌-◌}
 use native.Mathlib.Omega.{arith}
 use Rattle.tables.proofs.Gathering.{agree_start, agree_turn, agree_end}
 use Rattle.tables.proofs.finding.matches_record.Goals as goal
