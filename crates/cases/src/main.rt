@@ -7,11 +7,13 @@ mod lists_run;
 mod say;
 mod tables_run;
 
-fn main() {
-    intervals_run::bounds();
-    intervals_run::counts();
-    intervals_run::lists();
-    intervals_run::walks();
-    intervals_run::checks();
-    tables_run::run();
+use std::io;
+
+fn main(rt: HostRuntime) -> io::Result<()> {
+    intervals_run::bounds(&rt)?;
+    intervals_run::counts(&rt)?;
+    intervals_run::lists(&rt)?;
+    intervals_run::walks(&rt)?;
+    intervals_run::checks(&rt)?;
+    tables_run::run(&rt)
 }

@@ -1,69 +1,71 @@
 // Pieces of a line on standard output.
 use intervals::Fault;
-use libc::STDOUT_FILENO;
+use std::io;
 
-pub fn text(s: &[u8]) {
-    io::write_all(STDOUT_FILENO, s);
+pub fn text(rt: &impl Print, s: &[u8]) -> io::Result<()> {
+    rt.write_all(s)
 }
 
-pub fn number(x: u32) {
-    io::print_decimal(STDOUT_FILENO, x as u64);
+pub fn number(rt: &impl Print, x: u32) -> io::Result<()> {
+    rt.print(x)
 }
 
-pub fn size(x: usize) {
-    io::print_decimal(STDOUT_FILENO, x as u64);
+pub fn size(rt: &impl Print, x: usize) -> io::Result<()> {
+    rt.print(x)
 }
 
-pub fn half(x: u16) {
-    io::print_decimal(STDOUT_FILENO, x as u64);
+pub fn half(rt: &impl Print, x: u16) -> io::Result<()> {
+    rt.print(x)
 }
 
-pub fn byte(x: u8) {
-    io::print_decimal(STDOUT_FILENO, x as u64);
+pub fn byte(rt: &impl Print, x: u8) -> io::Result<()> {
+    rt.print(x)
 }
 
 // One digit below 16, in capitals.
-fn digit(x: u8) {
+fn digit(rt: &impl Print, x: u8) -> io::Result<()> {
     match x {
-        10 => text(b"A"),
-        11 => text(b"B"),
-        12 => text(b"C"),
-        13 => text(b"D"),
-        14 => text(b"E"),
-        15 => text(b"F"),
-        _ => byte(x),
+        10 => text(rt, b"A")?,
+        11 => text(rt, b"B")?,
+        12 => text(rt, b"C")?,
+        13 => text(rt, b"D")?,
+        14 => text(rt, b"E")?,
+        15 => text(rt, b"F")?,
+        _ => byte(rt, x)?,
     }
+    Ok(())
 }
 
 // A byte as two hex digits.
-pub fn hex(x: u8) {
-    digit(x / 16);
-    digit(x % 16);
+pub fn hex(rt: &impl Print, x: u8) -> io::Result<()> {
+    digit(rt, x / 16)?;
+    digit(rt, x % 16)
 }
 
-pub fn end() {
-    text(b"\n");
+pub fn end(rt: &impl Print) -> io::Result<()> {
+    text(rt, b"\n")
 }
 
 // "n = 4, 1..14"
-pub fn interval(n: u32, low: u32, high: u32) {
-    text(b"n = ");
-    number(n);
-    text(b", ");
-    number(low);
-    text(b"..");
-    number(high);
+pub fn interval(rt: &impl Print, n: u32, low: u32, high: u32) -> io::Result<()> {
+    text(rt, b"n = ")?;
+    number(rt, n)?;
+    text(rt, b", ")?;
+    number(rt, low)?;
+    text(rt, b"..")?;
+    number(rt, high)
 }
 
-pub fn refused(no: u32) {
-    text(b"refused ");
-    number(no);
+pub fn refused(rt: &impl Print, no: u32) -> io::Result<()> {
+    text(rt, b"refused ")?;
+    number(rt, no)
 }
 
-pub fn fault(f: Fault) {
+pub fn fault(rt: &impl Print, f: Fault) -> io::Result<()> {
     match f {
-        Fault::Width => refused(answers::WIDTH),
-        Fault::Fit => refused(answers::FIT),
-        Fault::Order => refused(answers::ORDER),
+        Fault::Width => refused(rt, answers::WIDTH)?,
+        Fault::Fit => refused(rt, answers::FIT)?,
+        Fault::Order => refused(rt, answers::ORDER)?,
     }
+    Ok(())
 }

@@ -10,12 +10,14 @@ mod symbols;
 mod tallies;
 mod widths;
 
-fn main() {
+use std::io;
+
+fn main(rt: HostRuntime) -> io::Result<()> {
     let all = tallies::all();
-    widths::counts(all);
-    open::run();
-    widths::means(all);
-    widths::shares(all);
-    ports::run();
-    symbols::run();
+    widths::counts(&rt, all)?;
+    open::run(&rt)?;
+    widths::means(&rt, all)?;
+    widths::shares(&rt, all)?;
+    ports::run(&rt)?;
+    symbols::run(&rt)
 }

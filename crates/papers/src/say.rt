@@ -1,25 +1,25 @@
 // Pieces of a line on standard output.
-use libc::STDOUT_FILENO;
+use std::io;
 
-pub fn text(s: &[u8]) {
-    io::write_all(STDOUT_FILENO, s);
+pub fn text(rt: &impl Print, s: &[u8]) -> io::Result<()> {
+    rt.write_all(s)
 }
 
-pub fn number(x: u64) {
-    io::print_decimal(STDOUT_FILENO, x);
+pub fn number(rt: &impl Print, x: u64) -> io::Result<()> {
+    rt.print(x)
 }
 
-pub fn end() {
-    text(b"\n");
+pub fn end(rt: &impl Print) -> io::Result<()> {
+    text(rt, b"\n")
 }
 
 // x hundred-thousandths, with five decimals.
-pub fn decimals(x: u64) {
-    number(x / 100000);
-    text(b".");
-    number(x / 10000 % 10);
-    number(x / 1000 % 10);
-    number(x / 100 % 10);
-    number(x / 10 % 10);
-    number(x % 10);
+pub fn decimals(rt: &impl Print, x: u64) -> io::Result<()> {
+    number(rt, x / 100000)?;
+    text(rt, b".")?;
+    number(rt, x / 10000 % 10)?;
+    number(rt, x / 1000 % 10)?;
+    number(rt, x / 100 % 10)?;
+    number(rt, x / 10 % 10)?;
+    number(rt, x % 10)
 }

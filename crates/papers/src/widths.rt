@@ -1,52 +1,62 @@
 // What source document 000 says of all intervals of a width: theorem 4.1, table 4 and table 5.
 use crate::tallies::{Sums, Tally};
 use crate::{exact, say};
+use std::io;
 
-fn item(x: u64) {
-    say::text(b" ");
-    say::number(x);
+fn item(rt: &impl Print, x: u64) -> io::Result<()> {
+    say::text(rt, b" ")?;
+    say::number(rt, x)
 }
 
 // How many intervals have 1, 2, .. words.
-fn items(tally: Tally) {
+fn items(rt: &impl Print, tally: Tally) -> io::Result<()> {
     let most = tally.most();
     for t in 1..32 {
         if t <= most {
-            item(tally.having[t]);
+            item(rt, tally.having[t])?;
         }
     }
-    say::end();
+    say::end(rt)
 }
 
-fn count_line(n: usize, tally: Tally) {
-    say::text(b"n = ");
-    say::number(n as u64);
-    say::text(b":");
-    items(tally);
+fn count_line(rt: &impl Print, n: usize, tally: Tally) -> io::Result<()> {
+    say::text(rt, b"n = ")?;
+    say::number(rt, n as u64)?;
+    say::text(rt, b":")?;
+    items(rt, tally)
 }
 
-pub fn counts(all: [Tally; 13]) {
+pub fn counts(rt: &impl Print, all: [Tally; 13]) -> io::Result<()> {
     say::text(
+        rt,
         b"source document 000, theorem 4.1: how many intervals of width n have 1, 2, .. words\n",
-    );
+    )?;
     for n in 1..11 {
-        count_line(n, all[n]);
+        count_line(rt, n, all[n])?;
     }
+    Ok(())
 }
 
-fn mean_line(n: usize, s: Sums) {
-    say::number(n as u64);
-    item(s.intervals);
-    say::text(b" ");
-    say::decimals(exact::nearest(exact::product(s.words, 100000), s.intervals));
-    say::end();
+fn mean_line(rt: &impl Print, n: usize, s: Sums) -> io::Result<()> {
+    say::number(rt, n as u64)?;
+    item(rt, s.intervals)?;
+    say::text(rt, b" ")?;
+    say::decimals(
+        rt,
+        exact::nearest(exact::product(s.words, 100000), s.intervals),
+    )?;
+    say::end(rt)
 }
 
-pub fn means(all: [Tally; 13]) {
-    say::text(b"source document 000, table 4: n, how many intervals, their mean number of words\n");
+pub fn means(rt: &impl Print, all: [Tally; 13]) -> io::Result<()> {
+    say::text(
+        rt,
+        b"source document 000, table 4: n, how many intervals, their mean number of words\n",
+    )?;
     for n in 4..13 {
-        mean_line(n, all[n].sums());
+        mean_line(rt, n, all[n].sums())?;
     }
+    Ok(())
 }
 
 // What table 5 adds to the mean.
@@ -86,29 +96,34 @@ fn within(tally: Tally, s: Sums, limit: Limit) -> u64 {
 }
 
 // Those of all intervals, in percent.
-fn share(tally: Tally, s: Sums, limit: Limit) {
-    say::text(b" ");
-    say::decimals(exact::nearest(
-        exact::product(within(tally, s, limit), 10000000),
-        s.intervals,
-    ));
-    say::text(b"%");
+fn share(rt: &impl Print, tally: Tally, s: Sums, limit: Limit) -> io::Result<()> {
+    say::text(rt, b" ")?;
+    say::decimals(
+        rt,
+        exact::nearest(
+            exact::product(within(tally, s, limit), 10000000),
+            s.intervals,
+        ),
+    )?;
+    say::text(rt, b"%")
 }
 
-fn share_line(n: usize, tally: Tally) {
+fn share_line(rt: &impl Print, n: usize, tally: Tally) -> io::Result<()> {
     let s = tally.sums();
-    say::number(n as u64);
-    share(tally, s, Limit::OneDeviation);
-    share(tally, s, Limit::TwoDeviations);
-    share(tally, s, Limit::Variance);
-    say::end();
+    say::number(rt, n as u64)?;
+    share(rt, tally, s, Limit::OneDeviation)?;
+    share(rt, tally, s, Limit::TwoDeviations)?;
+    share(rt, tally, s, Limit::Variance)?;
+    say::end(rt)
 }
 
-pub fn shares(all: [Tally; 13]) {
+pub fn shares(rt: &impl Print, all: [Tally; 13]) -> io::Result<()> {
     say::text(
+        rt,
         b"source document 000, table 5: n, intervals with at most the mean and one, two deviations, the variance\n",
-    );
+    )?;
     for n in 8..13 {
-        share_line(n, all[n]);
+        share_line(rt, n, all[n])?;
     }
+    Ok(())
 }

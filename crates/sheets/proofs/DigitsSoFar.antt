@@ -70,3 +70,6 @@ pub number_other : (s : List ℕ) → (length s ≡ 0 → ⊥) → (get_or s 0 0
 unfolding number_of
 number_other [] n e = absurd (n refl)
 number_other (x ∷ s) n e = rw (ne_eqb x 48 e)
+
+-- what `number` answers, by its tests
+pub ruleset number_tests = (no_number, leading_zero, number_zero, number_other)

@@ -28,6 +28,7 @@ fn digits(s: &[u8]) -> u32
 }
 
 // The number that s says, or NONE: digits with no leading zero, at most 65535.
+#[tactic(auto, using(crate::proofs::DigitsSoFar::number_tests))]
 pub fn number(s: &[u8]) -> u32
     ensures { result ≡ number_of s.now }
 {

@@ -4,14 +4,14 @@
 
 use blocks::Word;
 use intervals::{Gave, Step, Walk};
-use libc::STDOUT_FILENO;
+use std::io;
 
-fn text(s: &[u8]) {
-    io::write_all(STDOUT_FILENO, s);
+fn text(rt: &impl Print, s: &[u8]) -> io::Result<()> {
+    rt.write_all(s)
 }
 
-fn number(x: u32) {
-    io::print_decimal(STDOUT_FILENO, x as u64);
+fn number(rt: &impl Print, x: u32) -> io::Result<()> {
+    rt.print(x)
 }
 
 // Bit i of x is 1.
@@ -23,94 +23,101 @@ fn bit(x: u16, i: u32) -> bool {
 }
 
 // Bit i of a word: 0, 1 or * for a don't care.
-fn symbol(w: Word, i: u32) {
+fn symbol(rt: &impl Print, w: Word, i: u32) -> io::Result<()> {
     if bit(w.mask, i) {
         if bit(w.value, i) {
-            text(b"1");
+            text(rt, b"1")?;
         } else {
-            text(b"0");
+            text(rt, b"0")?;
         }
     } else {
-        text(b"*");
+        text(rt, b"*")?;
     }
+    Ok(())
 }
 
 // The word's n bits, the highest first.
-fn symbols(n: u32, w: Word) {
+fn symbols(rt: &impl Print, n: u32, w: Word) -> io::Result<()> {
     let mut i = n;
     while 0 < i {
         i -= 1;
-        symbol(w, i);
+        symbol(rt, w, i)?;
     }
+    Ok(())
 }
 
 // A word with the first and the last value that it matches: the last is the walk's end, or stands before its next value.
-fn line(n: u32, word: Word, after: Walk) {
-    text(b"  ");
-    symbols(n, word);
-    text(b"  ");
-    number(word.value as u32);
-    text(b"..");
+fn line(rt: &impl Print, n: u32, word: Word, after: Walk) -> io::Result<()> {
+    text(rt, b"  ")?;
+    symbols(rt, n, word)?;
+    text(rt, b"  ")?;
+    number(rt, word.value as u32)?;
+    text(rt, b"..")?;
     if after.ended {
-        number(after.last);
+        number(rt, after.last)?;
     } else {
         if 0 < after.next {
-            number(after.next - 1);
+            number(rt, after.next - 1)?;
         }
     }
-    text(b"\n");
+    text(rt, b"\n")
 }
 
 // Shows a step of a walk of width n; true where it gave a word.
-fn shown(n: u32, s: Step) -> bool {
+fn shown(rt: &impl Print, n: u32, s: Step) -> io::Result<bool> {
     let g = s.gave;
     if let Gave::Next = g {
-        line(n, s.word, s.walk);
-        return true;
+        line(rt, n, s.word, s.walk)?;
+        return Ok(true);
     }
-    false
+    Ok(false)
 }
 
 // A line for each word of the walk.
-fn lines(from: Walk) {
+fn lines(rt: &impl Print, from: Walk) -> io::Result<()> {
     let mut w = from;
     let mut left: u32 = 32;
     while 0 < left {
         let s = w.step();
         w = s.walk;
-        if shown(w.width, s) {
+        if shown(rt, w.width, s)? {
             left -= 1;
         } else {
             left = 0;
         }
     }
+    Ok(())
 }
 
 // The words of low..high.
-fn show(n: u32, low: u32, high: u32) {
-    text(b"width ");
-    number(n);
-    text(b", ");
-    number(low);
-    text(b"..");
-    number(high);
-    text(b"\n");
-    lines(Walk {
-        width: n,
-        next: low,
-        last: high,
-        ended: false,
-    });
+fn show(rt: &impl Print, n: u32, low: u32, high: u32) -> io::Result<()> {
+    text(rt, b"width ")?;
+    number(rt, n)?;
+    text(rt, b", ")?;
+    number(rt, low)?;
+    text(rt, b"..")?;
+    number(rt, high)?;
+    text(rt, b"\n")?;
+    lines(
+        rt,
+        Walk {
+            width: n,
+            next: low,
+            last: high,
+            ended: false,
+        },
+    )?;
+    Ok(())
 }
 
-fn main() {
-    show(4, 1, 14);
-    show(4, 5, 5);
-    show(4, 0, 15);
-    show(4, 1, 15);
-    show(6, 19, 61);
-    show(16, 1024, 65535);
-    show(16, 1000, 2000);
-    show(16, 1, 5589);
-    show(16, 1, 65534);
+fn main(rt: HostRuntime) -> io::Result<()> {
+    show(&rt, 4, 1, 14)?;
+    show(&rt, 4, 5, 5)?;
+    show(&rt, 4, 0, 15)?;
+    show(&rt, 4, 1, 15)?;
+    show(&rt, 6, 19, 61)?;
+    show(&rt, 16, 1024, 65535)?;
+    show(&rt, 16, 1000, 2000)?;
+    show(&rt, 16, 1, 5589)?;
+    show(&rt, 16, 1, 65534)
 }
