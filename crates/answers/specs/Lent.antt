@@ -1,7 +1,6 @@
 -- A call that writes to memory it is lent: what it leaves there, and what is promised of it.
-use Rattle.std.specs.Prelude.{List, ◌≡◌, ℕ, eqb}
+use Rattle.std.specs.Prelude.{List, ◌≡◌, ℕ, eqb, if◌then◌else◌}
 use Rattle.answers.specs.declared.Answer.{Answer}
-use Rattle.bits.specs.Choice.{if◌then◌else◌}
 use Rattle.fields.specs.Writes.{write_at}
 
 -- what the memory holds after an answer: what is written and then what stood behind it, or what it held where it is refused

@@ -1,7 +1,6 @@
 -- Binary digits of a number: one of them, how many are 1 or 0 below a place, and the highest at which two numbers differ.
-use Rattle.std.specs.Prelude.{◌≡◌, ℕ, zero, suc, ◌-◌, ◌/◌, ◌%◌, ◌^◌, ◌≤◌, ◌<◌, eqb}
+use Rattle.std.specs.Prelude.{◌≡◌, ℕ, zero, suc, ◌-◌, ◌/◌, ◌%◌, ◌^◌, ◌≤◌, ◌<◌, eqb, if◌then◌else◌}
 use Rattle.std.specs.Int.Count.{ones}
-use Rattle.bits.specs.Choice.{if◌then◌else◌}
 
 -- bit i of x, counted from 0 at the low end
 abbrev pub bit : ℕ → ℕ → ℕ

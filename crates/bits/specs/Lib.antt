@@ -1,3 +1,2 @@
-pub mod Choice
 pub mod Digits
 pub mod Masks

@@ -1,8 +1,7 @@
 -- Aligned blocks and the largest ones inside an interval (document 01, "Intervals and words").
 -- An interval low .. high stands here as low and end = high + 1: the values from low up to, and not with, end.
-use Rattle.std.specs.Prelude.{Bool, ◌&&◌, not, ◌≡◌, ℕ, zero, suc, ◌+◌, ◌-◌, ◌%◌, ◌^◌, ◌≤◌, ◌<◌, leb, ltb}
+use Rattle.std.specs.Prelude.{Bool, ◌&&◌, not, ◌≡◌, ℕ, zero, suc, ◌+◌, ◌-◌, ◌%◌, ◌^◌, ◌≤◌, ◌<◌, leb, ltb, if◌then◌else◌}
 use mathlib.Core.List.{List, [], ◌∷◌, ◌++◌, Memᴰ, map}
-use Rattle.bits.specs.Choice.{if◌then◌else◌}
 use Rattle.bits.specs.Masks.{mask_of}
 use Rattle.blocks.specs.Words.{word}
 use Rattle.blocks.specs.declared.Word.{Word}

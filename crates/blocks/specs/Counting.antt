@@ -1,7 +1,6 @@
 -- How many words an interval has, as document 01 counts them ("Count"; source document 000, theorem 3.2).
-use Rattle.std.specs.Prelude.{◌&&◌, ℕ, ◌+◌, ◌-◌, ◌^◌, eqb}
+use Rattle.std.specs.Prelude.{◌&&◌, ℕ, ◌+◌, ◌-◌, ◌^◌, eqb, if◌then◌else◌}
 use Rattle.std.specs.Int.Count.{ones}
-use Rattle.bits.specs.Choice.{if◌then◌else◌}
 use Rattle.bits.specs.Digits.{ones_below, zeros_below, top_differ}
 
 -- the zeros of a below s plus the ones of b below s

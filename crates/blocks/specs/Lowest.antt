@@ -1,6 +1,5 @@
 -- The lowest largest block of an interval, by its number of free bits.
-use Rattle.std.specs.Prelude.{Bool, ◌&&◌, ◌≡◌, ℕ, zero, suc, ◌+◌, ◌%◌, ◌^◌, ◌≤◌, leb, eqb}
-use Rattle.bits.specs.Choice.{if◌then◌else◌}
+use Rattle.std.specs.Prelude.{Bool, ◌&&◌, ◌≡◌, ℕ, zero, suc, ◌+◌, ◌%◌, ◌^◌, ◌≤◌, leb, eqb, if◌then◌else◌}
 
 -- the block of k free bits from next on is aligned and ends by end
 abbrev pub reaches? : ℕ → ℕ → ℕ → Bool

@@ -1,7 +1,6 @@
 -- A rule's words, and a table: all rules' words, joined (document 01: every source port word with every destination port
 -- word, source in the outer order, both ascending; rules follow in their order).
-use Rattle.std.specs.Prelude.{List, [], ◌∷◌, ◌++◌, map, ◌≡◌, ℕ, ◌+◌, ◌-◌, ◌≤◌, eqb, length}
-use Rattle.bits.specs.Choice.{if◌then◌else◌}
+use Rattle.std.specs.Prelude.{List, [], ◌∷◌, ◌++◌, map, ◌≡◌, ℕ, ◌+◌, ◌-◌, ◌≤◌, eqb, length, if◌then◌else◌}
 use Rattle.bits.specs.Masks.{mask_of}
 use Rattle.blocks.specs.Blocks.{words_of}
 use Rattle.blocks.specs.Words.{word}

@@ -13,7 +13,7 @@ use Rattle.answers.specs.Refusals as refusal
 use Rattle.answers.specs.declared.Answer.{Answer}
 use Rattle.answers.specs.declared.Lowest.{Lowest}
 use Rattle.answers.specs.declared.Lowest.TheVariants.{None, At}
-use Rattle.bits.specs.Choice.{if◌then◌else◌}
+use Rattle.std.specs.Prelude.{if◌then◌else◌}
 use Rattle.blocks.specs.Blocks.{Closed}
 use Rattle.blocks.specs.Words.{AllFormed, Exactly}
 use Rattle.intervals.specs.Checks.{Disagree, checking, first_ill, judged, verdict, words_from}

@@ -9,7 +9,7 @@ use Rattle.answers.proofs.Lending.{one_back}
 use Rattle.answers.proofs.ReadBack.{back}
 use Rattle.answers.specs.Refusals as refusal
 use Rattle.answers.specs.declared.Answer.{Answer}
-use Rattle.bits.specs.Choice.{if◌then◌else◌}
+use Rattle.std.specs.Prelude.{if◌then◌else◌}
 use Rattle.blocks.specs.declared.Word.{Word}
 use Rattle.intervals.specs.Bounds.{closed_as, closing}
 use Rattle.intervals.specs.Checks.{checked_as, checking}

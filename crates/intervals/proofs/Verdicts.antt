@@ -14,7 +14,7 @@ use Rattle.answers.specs.Answers.{done}
 use Rattle.answers.specs.declared.Answer.{Answer}
 use Rattle.answers.specs.declared.Lowest.TheVariants.{None, At}
 use Rattle.bits.proofs.Orders.{le_or_lt}
-use Rattle.bits.specs.Choice.{if◌then◌else◌}
+use Rattle.std.specs.Prelude.{if◌then◌else◌}
 use Rattle.blocks.proofs.Testing.{formed_test, some_test, test_formed, test_some}
 use Rattle.blocks.specs.Tests.{formed?, some?}
 use Rattle.blocks.specs.Words.{AllFormed, Exactly, Formed, Some, word}

@@ -1,10 +1,9 @@
 -- Open bounds (A, B) and the closed interval A + 1 .. B - 1 (document 01, "Intervals and words").
-use Rattle.std.specs.Prelude.{Bool, ◌&&◌, ◌||◌, not, ℕ, zero, suc, ◌+◌, ◌-◌, ◌^◌, ltb, ℤ, pos, negsuc, ◌+ℤ◌, nat_abs}
+use Rattle.std.specs.Prelude.{Bool, ◌&&◌, ◌||◌, not, ℕ, zero, suc, ◌+◌, ◌-◌, ◌^◌, ltb, ℤ, pos, negsuc, ◌+ℤ◌, nat_abs, if◌then◌else◌}
 use Rattle.std.specs.Int.Signed.{le_z, lt_z}
 use Rattle.answers.specs.Answers.{done, refused}
 use Rattle.answers.specs.Refusals as refusal
 use Rattle.answers.specs.declared.Answer.{Answer}
-use Rattle.bits.specs.Choice.{if◌then◌else◌}
 use Rattle.intervals.specs.Ends.{number_of}
 use Rattle.intervals.specs.declared.bounds.Closed.{Closed}
 use Rattle.intervals.specs.declared.bounds.Closed.TheVariants.{Range, Refused}

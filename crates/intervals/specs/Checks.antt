@@ -1,12 +1,11 @@
 -- Checking a list of ternary words against an interval (document 01, "Checking a list").
-use Rattle.std.specs.Prelude.{Bool, ◌&&◌, List, [], ◌∷◌, ◌⊎◌, ℕ, zero, suc, ◌+◌, ◌*◌, ◌/◌, ◌^◌, ◌≤◌, leb, ltb, get_or, length}
+use Rattle.std.specs.Prelude.{Bool, ◌&&◌, List, [], ◌∷◌, ◌⊎◌, ℕ, zero, suc, ◌+◌, ◌*◌, ◌/◌, ◌^◌, ◌≤◌, leb, ltb, get_or, length, if◌then◌else◌}
 use Rattle.std.specs.Bool.{beq}
 use Rattle.answers.specs.Answers.{behind_ill, done, refused}
 use Rattle.answers.specs.Refusals as refusal
 use Rattle.answers.specs.declared.Answer.{Answer}
 use Rattle.answers.specs.declared.Lowest.{Lowest}
 use Rattle.answers.specs.declared.Lowest.TheVariants.{None, At}
-use Rattle.bits.specs.Choice.{if◌then◌else◌}
 use Rattle.blocks.specs.Tests.{formed?, some?}
 use Rattle.blocks.specs.Words.{Some, word}
 use Rattle.blocks.specs.declared.Word.{Word}

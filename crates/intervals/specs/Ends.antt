@@ -1,9 +1,8 @@
 -- The tests of an interval's width and ends (document 01, "When the tablet says no": 1, 2 and 3), lowest number first.
-use Rattle.std.specs.Prelude.{◌||◌, ℕ, ◌^◌, leb, ltb}
+use Rattle.std.specs.Prelude.{◌||◌, ℕ, ◌^◌, leb, ltb, if◌then◌else◌}
 use Rattle.answers.specs.Answers.{refused}
 use Rattle.answers.specs.Refusals as refusal
 use Rattle.answers.specs.declared.Answer.{Answer}
-use Rattle.bits.specs.Choice.{if◌then◌else◌}
 use Rattle.intervals.specs.declared.ends.Fault.{Fault}
 use Rattle.intervals.specs.declared.ends.Fault.TheVariants.{Width, Fit, Order}
 use Rattle.intervals.specs.declared.ends.Tested.{Tested}

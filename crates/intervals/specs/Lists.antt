@@ -1,11 +1,10 @@
 -- Counting and listing: what is answered, and what a lent list of numbers holds afterwards (document 01, "Count" and the
 -- paragraph on lists: value then mask, k words take 2k numbers, and later numbers stay as they were).
-use Rattle.std.specs.Prelude.{List, [], ◌∷◌, ℕ, ◌*◌, ltb, length}
+use Rattle.std.specs.Prelude.{List, [], ◌∷◌, ℕ, ◌*◌, ltb, length, if◌then◌else◌}
 use Rattle.answers.specs.Answers.{done, refused}
 use Rattle.answers.specs.Lent.{Lent}
 use Rattle.answers.specs.Refusals as refusal
 use Rattle.answers.specs.declared.Answer.{Answer}
-use Rattle.bits.specs.Choice.{if◌then◌else◌}
 use Rattle.blocks.specs.Blocks.{words_of}
 use Rattle.blocks.specs.Counting.{count_of}
 use Rattle.blocks.specs.declared.Word.{Word}

@@ -1,6 +1,5 @@
 -- A walk over an interval's words (document 01, "One by one").
-use Rattle.std.specs.Prelude.{true, false, List, [], ◌∷◌, ℕ, zero, suc, ◌+◌, ◌^◌, ltb}
-use Rattle.bits.specs.Choice.{if◌then◌else◌}
+use Rattle.std.specs.Prelude.{true, false, List, [], ◌∷◌, ℕ, zero, suc, ◌+◌, ◌^◌, ltb, if◌then◌else◌}
 use Rattle.bits.specs.Masks.{mask_of}
 use Rattle.blocks.specs.Lowest.{free_of}
 use Rattle.blocks.specs.Words.{word}

@@ -7,7 +7,7 @@ use native.Mathlib.Omega.{arith}
 use lib.Dec.{eqb}
 use lib.ListN.{length}
 use borrow.Author.Tests.{eq-eqb, eqb-true, ltb-false, not-false}
-use Rattle.bits.specs.Choice.{if◌then◌else◌}
+use Rattle.std.specs.Prelude.{if◌then◌else◌}
 use Rattle.records.specs.Layout.{rule_limit, rule_size}
 use Rattle.records.specs.Rules.{all_rules}
 use Rattle.records.specs.declared.Rule.{Rule}

@@ -9,7 +9,7 @@ use lib.Dec.{eqb}
 use Rattle.answers.proofs.ReadBack.{back}
 use Rattle.answers.specs.Refusals as refusal
 use Rattle.answers.specs.declared.Answer.{Answer}
-use Rattle.bits.specs.Choice.{if◌then◌else◌}
+use Rattle.std.specs.Prelude.{if◌then◌else◌}
 use Rattle.rules.specs.Faults.{list_fault_as, tested_rules}
 use Rattle.rules.specs.Finding.{finding, found_as}
 use Rattle.rules.specs.declared.faults.ListFault.{ListFault}

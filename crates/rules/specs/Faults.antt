@@ -1,10 +1,9 @@
 -- What is wrong with a rule list (document 01, "When the tablet says no": 5, 6 and 7), lowest number first. A list is well
 -- formed when none of these applies.
-use Rattle.std.specs.Prelude.{Bool, ◌&&◌, not, List, [], ◌∷◌, ℕ, ◌+◌, ◌-◌, ◌/◌, ◌%◌, ◌^◌, eqb, ltb, length}
+use Rattle.std.specs.Prelude.{Bool, ◌&&◌, not, List, [], ◌∷◌, ℕ, ◌+◌, ◌-◌, ◌/◌, ◌%◌, ◌^◌, eqb, ltb, length, if◌then◌else◌}
 use Rattle.answers.specs.Answers.{refused}
 use Rattle.answers.specs.Refusals as refusal
 use Rattle.answers.specs.declared.Answer.{Answer}
-use Rattle.bits.specs.Choice.{if◌then◌else◌}
 use Rattle.records.specs.Layout.{last_action, rule_limit, rule_size}
 use Rattle.records.specs.Rules.{all_rules}
 use Rattle.records.specs.declared.Rule.{Rule}

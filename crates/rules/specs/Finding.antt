@@ -1,9 +1,8 @@
 -- Finding a header in a rule list: what is answered on any bytes.
-use Rattle.std.specs.Prelude.{not, List, ℕ, eqb, length}
+use Rattle.std.specs.Prelude.{not, List, ℕ, eqb, length, if◌then◌else◌}
 use Rattle.answers.specs.Answers.{done, refused}
 use Rattle.answers.specs.Refusals as refusal
 use Rattle.answers.specs.declared.Answer.{Answer}
-use Rattle.bits.specs.Choice.{if◌then◌else◌}
 use Rattle.records.specs.Keys.{key_at}
 use Rattle.records.specs.Layout.{key_size}
 use Rattle.records.specs.Rules.{all_rules}

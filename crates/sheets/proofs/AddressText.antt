@@ -6,7 +6,7 @@ use Prim.Native.Nat.{ℕ, ◌/◌, ◌%◌, ◌^◌, ◌≤◌, ◌<◌}
 use native.Mathlib.Omega.{arith}
 use lib.Dec.{leb}
 use borrow.Author.Tests.{le-leb, leb-true, not-true}
-use Rattle.bits.specs.Choice.{if◌then◌else◌}
+use Rattle.std.specs.Prelude.{if◌then◌else◌}
 use Rattle.rules.specs.Faults.{beyond?}
 use Rattle.sheets.specs.Cuts.{after, before, times}
 use Rattle.sheets.specs.Numbers.{number_of}

@@ -9,7 +9,7 @@ use lib.Dec.{eqb, eqb-suc-zero, leb, ltb}
 use lib.ListN.{get_or, length}
 use borrow.Author.Tests.{eqb-true, eqb-false, ne_eqb, le-leb, le-ltb, leb-true, lt-ltb, ltb-true}
 use Rattle.bits.proofs.Orders.{le_or_lt}
-use Rattle.bits.specs.Choice.{if◌then◌else◌}
+use Rattle.std.specs.Prelude.{if◌then◌else◌}
 use Rattle.sheets.specs.Cuts.{times}
 use Rattle.sheets.specs.Numbers.{digit?, none, number_after, number_of}
 use Rattle.texts.proofs.Digits.{decimal_last, decimal_more, digits_last, digits_more}

@@ -8,7 +8,7 @@ use native.Mathlib.Omega.{arith}
 use lib.Dec.{eqb, leb}
 use borrow.Author.Tests.{eq-eqb, le-leb, leb-true, ne_eqb}
 use Rattle.bits.proofs.Orders.{le_or_lt}
-use Rattle.bits.specs.Choice.{if◌then◌else◌}
+use Rattle.std.specs.Prelude.{if◌then◌else◌}
 use Rattle.fields.specs.Same.{same?}
 use Rattle.sheets.specs.Cuts.{after, before, times}
 use Rattle.sheets.specs.Numbers.{none, number_after, number_of}

@@ -9,7 +9,7 @@ use lib.ListN.{length}
 use Rattle.answers.specs.Answers.{done, refused}
 use Rattle.answers.specs.Refusals as refusal
 use Rattle.answers.specs.declared.Answer.{Answer}
-use Rattle.bits.specs.Choice.{if◌then◌else◌}
+use Rattle.std.specs.Prelude.{if◌then◌else◌}
 use Rattle.records.specs.Layout.{rule_limit, rule_size}
 use Rattle.records.specs.declared.Rule.{Rule}
 use Rattle.sheets.specs.BadLines.{FirstBadLine, Wrong}

@@ -9,7 +9,7 @@ use native.Mathlib.Omega.{arith}
 use lib.Dec.{eqb}
 use borrow.Author.Tests.{eq-eqb, eqb-true, ne_eqb}
 use Rattle.bits.proofs.Orders.{le_or_lt}
-use Rattle.bits.specs.Choice.{if◌then◌else◌}
+use Rattle.std.specs.Prelude.{if◌then◌else◌}
 use Rattle.fields.specs.Same.{same?}
 use Rattle.sheets.specs.Cuts.{after, before, times}
 

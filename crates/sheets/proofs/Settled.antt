@@ -7,7 +7,7 @@ use lib.Dec.{eqb}
 use Rattle.answers.proofs.Lending.{one_back}
 use Rattle.answers.specs.Refusals as refusal
 use Rattle.answers.specs.declared.Answer.{Answer}
-use Rattle.bits.specs.Choice.{if◌then◌else◌}
+use Rattle.std.specs.Prelude.{if◌then◌else◌}
 use Rattle.sheets.specs.Reading.{Reading, read_as}
 use Rattle.sheets.specs.declared.reading.Sheet.{Sheet}
 use Rattle.sheets.specs.declared.reading.Sheet.TheVariants as sheet

@@ -11,7 +11,7 @@ use lib.ListN.{length, length-append}
 use borrow.Author.Tests.{le-ltb, lt-ltb, ltb-false, ltb-true, ne_eqb}
 use Rattle.answers.specs.Answers.{done, refused}
 use Rattle.answers.specs.Refusals as refusal
-use Rattle.bits.specs.Choice.{if◌then◌else◌}
+use Rattle.std.specs.Prelude.{if◌then◌else◌}
 use Rattle.records.specs.Layout.{rule_limit, rule_size}
 use Rattle.records.specs.Rules.{list_bytes}
 use Rattle.records.specs.declared.Rule.{Rule}

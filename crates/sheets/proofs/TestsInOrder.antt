@@ -6,7 +6,7 @@ use mathlib.Core.Path.{◌≡◌, refl}
 use Prim.Native.Nat.{ℕ, zero, suc, ◌+◌, ◌<◌}
 use native.Mathlib.Omega.{arith}
 use lib.ListN.{get_or}
-use Rattle.bits.specs.Choice.{if◌then◌else◌}
+use Rattle.std.specs.Prelude.{if◌then◌else◌}
 use Rattle.records.specs.declared.Rule.{Rule}
 use Rattle.rules.specs.Lowest.{FirstTest}
 use Rattle.sheets.specs.declared.rows.Row.{Row}

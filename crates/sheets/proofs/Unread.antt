@@ -9,7 +9,7 @@ use native.Mathlib.Omega.{arith}
 use lib.ListN.{length}
 use borrow.Author.Tests.{ltb-true, ne_eqb}
 use Rattle.bits.proofs.Orders.{le_or_lt}
-use Rattle.bits.specs.Choice.{if◌then◌else◌}
+use Rattle.std.specs.Prelude.{if◌then◌else◌}
 use Rattle.records.specs.declared.Rule.{Rule}
 use Rattle.sheets.specs.BadLines.{Unended, Wrong}
 use Rattle.sheets.specs.Cuts.{after, before, times}

@@ -1,6 +1,5 @@
 -- Text in parts: what stands before and after a mark.
-use Rattle.std.specs.Prelude.{List, [], ◌∷◌, ◌≡◌, ℕ, suc, ◌+◌, eqb, length}
-use Rattle.bits.specs.Choice.{if◌then◌else◌}
+use Rattle.std.specs.Prelude.{List, [], ◌∷◌, ◌≡◌, ℕ, suc, ◌+◌, eqb, length, if◌then◌else◌}
 use Rattle.sheets.specs.declared.cuts.Places.{Places}
 
 -- the bytes before the first c, or all of them where there is none

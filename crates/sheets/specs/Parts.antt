@@ -1,7 +1,6 @@
 -- The six fields of a line: protocol, two addresses, two port intervals, action. Document 01's tests of a rule are part of
 -- what makes a field good.
-use Rattle.std.specs.Prelude.{true, false, ◌&&◌, not, List, [], ◌∷◌, ℕ, ◌+◌, ◌*◌, leb}
-use Rattle.bits.specs.Choice.{if◌then◌else◌}
+use Rattle.std.specs.Prelude.{true, false, ◌&&◌, not, List, [], ◌∷◌, ℕ, ◌+◌, ◌*◌, leb, if◌then◌else◌}
 use Rattle.fields.specs.Same.{same?}
 use Rattle.records.specs.Layout.{last_action}
 use Rattle.rules.specs.Faults.{beyond?}

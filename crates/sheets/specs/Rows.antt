@@ -1,6 +1,5 @@
 -- A line of a sheet, without its line feed: the rule that it says, or its first bad field.
-use Rattle.std.specs.Prelude.{not, List, ℕ, ◌/◌, ◌%◌, eqb, ltb}
-use Rattle.bits.specs.Choice.{if◌then◌else◌}
+use Rattle.std.specs.Prelude.{not, List, ℕ, ◌/◌, ◌%◌, eqb, ltb, if◌then◌else◌}
 use Rattle.records.specs.Layout.{last_action}
 use Rattle.records.specs.declared.Rule.{Rule}
 use Rattle.sheets.specs.Cuts.{after, before, times}

@@ -1,6 +1,5 @@
 -- The text of a rule and of a rule list, and what it is for a text to say one.
-use Rattle.std.specs.Prelude.{false, List, [], ◌∷◌, ◌++◌, ◌≡◌, ℕ, ◌/◌, ◌%◌, ◌^◌, ◌≤◌, ◌<◌, eqb, length}
-use Rattle.bits.specs.Choice.{if◌then◌else◌}
+use Rattle.std.specs.Prelude.{false, List, [], ◌∷◌, ◌++◌, ◌≡◌, ℕ, ◌/◌, ◌%◌, ◌^◌, ◌≤◌, ◌<◌, eqb, length, if◌then◌else◌}
 use Rattle.records.specs.Layout.{rule_limit}
 use Rattle.records.specs.Rules.{RuleFits}
 use Rattle.records.specs.declared.Rule.{Rule}

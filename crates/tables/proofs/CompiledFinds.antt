@@ -17,7 +17,7 @@ use Rattle.answers.specs.Refusals as refusal
 use Rattle.answers.specs.declared.Answer.{Answer}
 use Rattle.answers.specs.declared.Lowest.TheVariants.{None}
 use Rattle.bits.proofs.Orders.{le_or_lt}
-use Rattle.bits.specs.Choice.{if◌then◌else◌}
+use Rattle.std.specs.Prelude.{if◌then◌else◌}
 use Rattle.entries.proofs.Spans.{length_entries}
 use Rattle.entries.specs.Words.{entries_of, needed}
 use Rattle.fields.proofs.Writing.{length_write}

@@ -8,7 +8,7 @@ use native.Mathlib.Omega.{arith}
 use lib.ListN.{length}
 use Rattle.answers.specs.Answers.{done}
 use Rattle.answers.specs.declared.Answer.{Answer}
-use Rattle.bits.specs.Choice.{if◌then◌else◌}
+use Rattle.std.specs.Prelude.{if◌then◌else◌}
 use Rattle.entries.specs.Words.{entries_of, rule_entries}
 use Rattle.fields.specs.Bytes.{Bytes}
 use Rattle.records.proofs.Reading.{key_fits}

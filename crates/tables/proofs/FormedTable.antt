@@ -8,7 +8,7 @@ use lib.Dec.{leb}
 use lib.ListN.{length}
 use borrow.Author.Tests.{le-leb}
 use Rattle.answers.specs.declared.Lowest.TheVariants.{At, None}
-use Rattle.bits.specs.Choice.{if◌then◌else◌}
+use Rattle.std.specs.Prelude.{if◌then◌else◌}
 use Rattle.entries.specs.Words.{entries_of, rule_entries}
 use Rattle.records.specs.Entries.{Entry, entry_bytes, table_bytes}
 use Rattle.records.specs.Keys.{key_bytes}

@@ -9,7 +9,7 @@ use lib.Seq.{drop-drop}
 use Rattle.answers.specs.Answers.{done}
 use Rattle.answers.specs.declared.Answer.{Answer}
 use Rattle.answers.specs.declared.Lowest.TheVariants.{None, At}
-use Rattle.bits.specs.Choice.{if◌then◌else◌}
+use Rattle.std.specs.Prelude.{if◌then◌else◌}
 use Rattle.records.specs.Entries.{action_of, number_of}
 use Rattle.records.specs.Layout.{record_size}
 use Rattle.tables.specs.Indices.{Each, First, FirstMatch, matching, record_at}

@@ -8,7 +8,7 @@ use Rattle.answers.proofs.Lending.{one_back}
 use Rattle.answers.proofs.ReadBack.{back}
 use Rattle.answers.specs.Refusals as refusal
 use Rattle.answers.specs.declared.Answer.{Answer}
-use Rattle.bits.specs.Choice.{if◌then◌else◌}
+use Rattle.std.specs.Prelude.{if◌then◌else◌}
 use Rattle.rules.proofs.Settled.{fault_back, list_fault_from}
 use Rattle.rules.specs.declared.faults.ListFault.TheVariants.{Odd, Many, Bad}
 use Rattle.tables.specs.Compiling.{Compiling, compiled_as}

@@ -1,10 +1,9 @@
 -- Compiling a rule list: what is answered, and what a lent table holds afterwards.
-use Rattle.std.specs.Prelude.{List, ◌≡◌, ℕ, ◌≤◌, ltb, length}
+use Rattle.std.specs.Prelude.{List, ◌≡◌, ℕ, ◌≤◌, ltb, length, if◌then◌else◌}
 use Rattle.answers.specs.Answers.{done, refused}
 use Rattle.answers.specs.Lent.{Lent}
 use Rattle.answers.specs.Refusals as refusal
 use Rattle.answers.specs.declared.Answer.{Answer}
-use Rattle.bits.specs.Choice.{if◌then◌else◌}
 use Rattle.entries.specs.Words.{entries_of, needed}
 use Rattle.records.specs.Entries.{table_bytes}
 use Rattle.records.specs.Layout.{room_of}

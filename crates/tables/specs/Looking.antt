@@ -1,12 +1,11 @@
 -- Finding a header in a table: what is answered on any bytes.
-use Rattle.std.specs.Prelude.{Bool, true, ◌&&◌, not, List, [], ◌∷◌, ℕ, zero, suc, ◌+◌, ◌*◌, ◌≤◌, eqb, leb, ltb, drop, length}
+use Rattle.std.specs.Prelude.{Bool, true, ◌&&◌, not, List, [], ◌∷◌, ℕ, zero, suc, ◌+◌, ◌*◌, ◌≤◌, eqb, leb, ltb, drop, length, if◌then◌else◌}
 use Rattle.std.specs.Int.Bits.{bit_and}
 use Rattle.answers.specs.Answers.{behind_ill, done, refused}
 use Rattle.answers.specs.Refusals as refusal
 use Rattle.answers.specs.declared.Answer.{Answer}
 use Rattle.answers.specs.declared.Lowest.{Lowest}
 use Rattle.answers.specs.declared.Lowest.TheVariants.{None, At}
-use Rattle.bits.specs.Choice.{if◌then◌else◌}
 use Rattle.records.specs.Entries.{action_of, mask_of_record, number_of, value_of}
 use Rattle.records.specs.Layout.{key_size, last_action, record_size, room_of, word_limit}
 use Rattle.tables.specs.declared.finding.Found.{Found}

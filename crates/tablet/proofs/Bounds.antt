@@ -10,7 +10,7 @@ use borrow.Author.Tests.{ltb-false}
 use Rattle.answers.specs.Answers.{done, refused}
 use Rattle.answers.specs.Refusals as refusal
 use Rattle.answers.specs.declared.Answer.{Answer}
-use Rattle.bits.specs.Choice.{if◌then◌else◌}
+use Rattle.std.specs.Prelude.{if◌then◌else◌}
 use Rattle.records.specs.Layout.{rule_limit, rule_size, word_limit}
 use Rattle.sheets.specs.Reading.{Reading, behind_rows, many?, reading, rows_of, sheet_limit}
 use Rattle.sheets.specs.declared.rows.Rows.{Rows}

@@ -1,7 +1,6 @@
 -- What the C face adds to the calls that it hands on to: an index in 32 bits, and a walk whose flag is a number.
-use Rattle.std.specs.Prelude.{Bool, not, ℕ, ◌%◌, ◌^◌, eqb}
+use Rattle.std.specs.Prelude.{Bool, not, ℕ, ◌%◌, ◌^◌, eqb, if◌then◌else◌}
 use Rattle.answers.specs.declared.Answer.{Answer}
-use Rattle.bits.specs.Choice.{if◌then◌else◌}
 use Rattle.intervals.specs.Walks.{Stepped, stepping}
 use Rattle.intervals.specs.declared.walks.Walk as inner
 use Rattle.tablet.specs.declared.steps.Step.{Step}

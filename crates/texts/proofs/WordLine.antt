@@ -6,7 +6,7 @@ use Prim.Native.Nat.{ℕ, ◌+◌, ◌≤◌}
 use native.Mathlib.Omega.{arith}
 use lib.Dec.{eqb}
 use lib.ListN.{length, length-append, length-drop, length-take}
-use Rattle.bits.specs.Choice.{if◌then◌else◌}
+use Rattle.std.specs.Prelude.{if◌then◌else◌}
 use Rattle.fields.specs.Writes.{write_at}
 use Rattle.records.specs.Entries.{action_of, mask_of_record, number_of, value_of}
 use Rattle.records.specs.Layout.{record_size}

@@ -1,6 +1,5 @@
 -- Decimal numbers as text: digits with no leading zero.
-use Rattle.std.specs.Prelude.{List, [], ◌∷◌, ◌++◌, ℕ, zero, suc, ◌+◌, ◌/◌, ◌%◌, ltb}
-use Rattle.bits.specs.Choice.{if◌then◌else◌}
+use Rattle.std.specs.Prelude.{List, [], ◌∷◌, ◌++◌, ℕ, zero, suc, ◌+◌, ◌/◌, ◌%◌, ltb, if◌then◌else◌}
 
 -- the digits of x, where f of them are enough
 unfoldable pub digits_of : ℕ → ℕ → List ℕ

@@ -1,6 +1,5 @@
 -- Bytes as text: two hex digits each, in capitals.
-use Rattle.std.specs.Prelude.{List, [], ◌∷◌, ℕ, ◌+◌, ◌/◌, ◌%◌, ltb}
-use Rattle.bits.specs.Choice.{if◌then◌else◌}
+use Rattle.std.specs.Prelude.{List, [], ◌∷◌, ℕ, ◌+◌, ◌/◌, ◌%◌, ltb, if◌then◌else◌}
 
 abbrev pub hex_digit : ℕ → ℕ
 hex_digit d = if ltb d 10 then 48 + d else 55 + d

@@ -1,6 +1,5 @@
 -- A table record as a line of text (document 02, order 1): index, rule, value, mask, action, parted by tabs.
-use Rattle.std.specs.Prelude.{List, [], ◌∷◌, ◌++◌, ◌≡◌, ℕ, ◌+◌, eqb, length}
-use Rattle.bits.specs.Choice.{if◌then◌else◌}
+use Rattle.std.specs.Prelude.{List, [], ◌∷◌, ◌++◌, ◌≡◌, ℕ, ◌+◌, eqb, length, if◌then◌else◌}
 use Rattle.fields.specs.Writes.{write_at}
 use Rattle.records.specs.Entries.{action_of, mask_of_record, number_of, value_of}
 use Rattle.texts.specs.Decimal.{decimal}
