@@ -1,4 +1,4 @@
-// Links libtablet.a, which `rt staticlib tablet` writes. ASHKAVORZ_LIB names the folder that holds it; without it the
+// Links libtablet.a, which `tools/archive` writes. ASHKAVORZ_LIB names the folder that holds it; without it the
 // archive is looked for where the repository's own build leaves it.
 use std::{env, path::PathBuf};
 
