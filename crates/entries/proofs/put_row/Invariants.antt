@@ -1,5 +1,4 @@
--- `entries::put_row` meets its contract: at each turn the records of the destination words from next on are left.
--- Assumes nothing.
+-- The loop of `entries::put_row`: at each turn the records of the destination words from next on are left.
 use Prim.Native.Nat.{◌-◌}
 use Rattle.entries.specs.Words.{dest_words, port_row}
 use Rattle.entries.proofs.WordByWord.{Putting}

@@ -9,7 +9,11 @@ loop-next-init c =
     putting_start _ _ _ _ _ _ _ c.requires.good.source c.half-next.ensures c.half-end.ensures c.requires.room
 
 pub put_row-free-requires : goal.put_row-free-requires
-put_row-free-requires c = record { good = c.requires.good; room = putting_room (rows_joins _ _ _ _) _ _ _ _ _ _ _ c.loop-next.invariant (omega arith) _ _ c.free_bits-k.ensures c.mask.ensures }
+put_row-free-requires c = record {
+  good = c.requires.good;
+  room =
+      putting_room (rows_joins _ _ _ _) _ _ _ _ _ _ _ c.loop-next.invariant (omega arith) _ _ c.free_bits-k.ensures c.mask.ensures;
+}
 
 pub loop-next-preserved : goal.loop-next-preserved
 loop-next-preserved c =

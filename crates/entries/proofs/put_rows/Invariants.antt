@@ -1,5 +1,4 @@
--- `entries::put_rows` meets its contract: at each turn the rows of the source words from next on are left.
--- Assumes nothing.
+-- The loop of `entries::put_rows`: at each turn the rows of the source words from next on are left.
 use Prim.Native.Nat.{◌-◌}
 use Rattle.entries.specs.Words.{port_rows, source_words}
 use Rattle.entries.proofs.WordByWord.{Putting}

@@ -1,4 +1,4 @@
--- `texts::put_hex` meets its contract: at each turn the digits of the first i bytes are put. Assumes nothing.
+-- The loop of `texts::put_hex`: at each turn the digits of the first i bytes are put.
 use Prim.Native.Nat.{◌-◌}
 use lib.ListN.{length}
 use Rattle.texts.specs.Hex.{hex_of}

@@ -1,4 +1,4 @@
--- `texts::put_text` meets its contract: at each turn the first i bytes are put. Assumes nothing.
+-- The loop of `texts::put_text`: at each turn the first i bytes are put.
 use mathlib.Core.List.{List}
 use Prim.Native.Nat.{ℕ, ◌+◌, ◌-◌}
 use lib.ListN.{length}

@@ -1,4 +1,4 @@
--- `intervals::checks::first_ill` meets its contract: the answer stays that of the words that are left. Assumes nothing.
+-- The loop of `intervals::checks::first_ill`: the answer stays that of the words that are left.
 use mathlib.Core.Path.{◌≡◌}
 use Prim.Native.Nat.{◌-◌, ◌≤◌}
 use Rattle.intervals.specs.Checks.{first_ill, words_from}

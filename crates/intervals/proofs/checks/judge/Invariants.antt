@@ -1,4 +1,4 @@
--- `intervals::checks::judge` meets its contract: the verdict stays that of the values that are left. Assumes nothing.
+-- The loop of `intervals::checks::judge`: the verdict stays that of the values that are left.
 use mathlib.Core.Path.{◌≡◌}
 use Prim.Native.Nat.{◌-◌, ◌≤◌, ◌^◌}
 use Rattle.intervals.specs.Checks.{verdict, words_from}

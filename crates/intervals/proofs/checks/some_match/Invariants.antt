@@ -1,4 +1,4 @@
--- `intervals::checks::some_match` meets its contract: the answer stays that of the words that are left. Assumes nothing.
+-- The loop of `intervals::checks::some_match`: the answer stays that of the words that are left.
 use mathlib.Core.Path.{◌≡◌}
 use Prim.Native.Nat.{◌-◌, ◌≤◌}
 use Rattle.blocks.specs.Tests.{some?}

@@ -26,7 +26,8 @@ bounds-out-i-in-loop-next c = simp length-set (filled_room _ _ _ _ _ _ _ c.loop-
 
 pub loop-next-preserved : goal.loop-next-preserved
 loop-next-preserved c =
-    filled_more _ _ _ _ c.loop-next.out c.loop-next.next c.loop-next.i c.loop-next.invariant (omega arith) (omega arith) c.free_bits-k.result _ _ c.free_bits-k.ensures.is c.mask.ensures c.power-next.ensures
+    filled_more _ _ _ _ c.loop-next.out c.loop-next.next c.loop-next.i c.loop-next.invariant (omega arith) (omega arith)
+    c.free_bits-k.result _ _ c.free_bits-k.ensures.is c.mask.ensures c.power-next.ensures
 
 pub returns : goal.returns
 returns c = filled_end _ _ _ _ _ _ _ c.loop-next.invariant (omega arith)

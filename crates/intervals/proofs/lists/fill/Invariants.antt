@@ -1,5 +1,4 @@
--- `intervals::lists::fill` meets its contract: at each turn what is written and the words that are left make up the list.
--- Assumes nothing.
+-- The loop of `intervals::lists::fill`: at each turn what is written and the words that are left make up the list.
 use Prim.Native.Nat.{◌-◌}
 use Rattle.intervals.proofs.Filling.{Filled}
 use Rattle.intervals.proofs.lists.fill.Given as goal

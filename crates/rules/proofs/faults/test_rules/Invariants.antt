@@ -1,4 +1,4 @@
--- `rules::faults::test_rules` meets its contract: the answer stays that of the rules that are left. Assumes nothing.
+-- The loop of `rules::faults::test_rules`: the answer stays that of the rules that are left.
 use Prim.Native.Nat.{◌-◌}
 use Rattle.rules.proofs.Turning.{Tested}
 use Rattle.rules.proofs.faults.test_rules.Given as goal

@@ -1,4 +1,4 @@
--- `rules::finding::first_rule` meets its contract: the answer stays that of the rules that are left. Assumes nothing.
+-- The loop of `rules::finding::first_rule`: the answer stays that of the rules that are left.
 use Prim.Native.Nat.{◌-◌}
 use Rattle.rules.proofs.Turning.{Sought}
 use Rattle.rules.proofs.finding.first_rule.Given as goal

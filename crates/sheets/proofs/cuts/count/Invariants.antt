@@ -1,4 +1,4 @@
--- `sheets::cuts::count` meets its contract: k marks stand before i. Assumes nothing.
+-- The loop of `sheets::cuts::count`: k marks stand before i.
 use Prim.Native.Nat.{◌-◌}
 use lib.ListN.{length}
 use Rattle.sheets.proofs.MarksSoFar.{Counting}

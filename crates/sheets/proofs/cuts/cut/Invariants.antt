@@ -1,4 +1,4 @@
--- `sheets::cuts::cut` meets its contract: no mark stands before i. Assumes nothing.
+-- The loop of `sheets::cuts::cut`: no mark stands before i.
 use Prim.Native.Nat.{◌-◌}
 use lib.ListN.{length}
 use Rattle.sheets.proofs.Cutting.{Cutting}

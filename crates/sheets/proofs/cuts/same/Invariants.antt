@@ -1,4 +1,4 @@
--- `sheets::cuts::same` meets its contract: the bytes before i agree. Assumes nothing.
+-- The loop of `sheets::cuts::same`: the bytes before i agree.
 use Prim.Native.Nat.{◌-◌}
 use lib.ListN.{length}
 use Rattle.sheets.proofs.Comparing.{Comparing}

@@ -1,4 +1,4 @@
--- `sheets::numbers::digits` meets its contract: the digits before i say x. Assumes nothing.
+-- The loop of `sheets::numbers::digits`: the digits before i say x.
 use Prim.Native.Nat.{◌-◌}
 use lib.ListN.{length}
 use Rattle.sheets.proofs.DigitsSoFar.{Said}

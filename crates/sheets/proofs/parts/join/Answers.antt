@@ -18,13 +18,18 @@ pub returns-then-d-gt255 : goal.returns-then-d-gt255
 returns-then-d-gt255 c = c.bad_address-then-d-gt255.ensures ∙ joined_fourth _ _ _ _ _ (omega arith) (omega arith) (omega arith) (omega arith)
 
 pub returns-then-len-gt32 : goal.returns-then-len-gt32
-returns-then-len-gt32 c = c.bad_address-then-len-gt32.ensures ∙ joined_length _ _ _ _ _ (omega arith) (omega arith) (omega arith) (omega arith) (omega arith)
+returns-then-len-gt32 c =
+    c.bad_address-then-len-gt32.ensures
+    ∙ joined_length _ _ _ _ _ (omega arith) (omega arith) (omega arith) (omega arith) (omega arith)
 
 pub nonzero_rem-bits : goal.nonzero_rem-bits
 nonzero_rem-bits c = size_some _
 
 pub returns-then-bits-len-ne0 : goal.returns-then-bits-len-ne0
-returns-then-bits-len-ne0 c = c.bad_address-then-bits-len-ne0.ensures ∙ joined_beyond _ _ _ _ _ (omega arith) (omega arith) (omega arith) (omega arith) (omega arith) (rw size_is at c.if-bits-len-ne0.true)
+returns-then-bits-len-ne0 c =
+    c.bad_address-then-bits-len-ne0.ensures
+    ∙ joined_beyond _ _ _ _ _ (omega arith) (omega arith) (omega arith) (omega arith) (omega arith) (rw size_is at c.if-bits-len-ne0.true)
 
 pub returns : goal.returns
-returns c = joined_good _ _ _ _ _ (omega arith) (omega arith) (omega arith) (omega arith) (omega arith) (rw size_is at c.if-bits-len-ne0.false)
+returns c =
+    joined_good _ _ _ _ _ (omega arith) (omega arith) (omega arith) (omega arith) (omega arith) (rw size_is at c.if-bits-len-ne0.false)

@@ -1,4 +1,4 @@
--- `sheets::reading::many` meets its contract: what stands after all lines stands after those that are left. Assumes nothing.
+-- The loop of `sheets::reading::many`: what stands after all lines stands after those that are left.
 use Prim.Native.Nat.{◌-◌}
 use Rattle.records.specs.Layout.{rule_limit}
 use Rattle.sheets.proofs.Passing.{Passed}

@@ -1,5 +1,4 @@
--- `sheets::reading::read_rows` meets its contract: what is left of the text completes the verdict and the rules that are held.
--- Assumes nothing.
+-- The loop of `sheets::reading::read_rows`: what is left of the text completes the verdict and the rules that are held.
 use Prim.Native.Nat.{◌-◌}
 use Rattle.records.specs.Layout.{rule_limit}
 use Rattle.sheets.proofs.LinesLeft.{LinesLeft}

@@ -22,7 +22,13 @@ pub overflow_cast-i : goal.overflow_cast-i
 overflow_cast-i c = omega (arith, (good_list _ c.requires.good).few)
 
 pub put_rule-at-requires : goal.put_rule-at-requires
-put_rule-at-requires c = record { good = filling_fine _ _ _ _ c.loop-i.i c.loop-i.from c.loop-i.at c.loop-i.invariant (omega arith) _ c.read_rule-r.ensures; room = lent_room c.loop-i.table c.loop-i.at _ (filling_room _ _ _ _ c.loop-i.i c.loop-i.from c.loop-i.at c.loop-i.invariant (omega arith) _ c.read_rule-r.ensures) }
+put_rule-at-requires c =
+    let l = c.loop-i in
+    let e = c.read_rule-r.ensures in
+    record {
+      good = filling_fine _ _ _ _ l.i l.from l.at l.invariant (omega arith) _ e;
+      room = lent_room l.table l.at _ (filling_room _ _ _ _ l.i l.from l.at l.invariant (omega arith) _ e);
+    }
 
 pub overflow_add-at : goal.overflow_add-at
 overflow_add-at c =

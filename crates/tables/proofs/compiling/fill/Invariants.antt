@@ -1,5 +1,5 @@
--- `tables::compiling::fill` meets its contract: what is left to be written completes the table. Each rule's records are
--- written to the part of the table from the first free record on. Assumes nothing.
+-- The loop of `tables::compiling::fill`: what is left to be written completes the table. Each rule's records are written to
+-- the part of the table from the first free record on.
 use Prim.Native.Nat.{◌-◌}
 use Rattle.tables.proofs.Filling.{Filling}
 use Rattle.tables.proofs.compiling.fill.Given as goal

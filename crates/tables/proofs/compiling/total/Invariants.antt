@@ -1,4 +1,4 @@
--- `tables::compiling::total` meets its contract: what is counted and what is left make up the whole. Assumes nothing.
+-- The loop of `tables::compiling::total`: what is counted and what is left make up the whole.
 use Prim.Native.Nat.{◌-◌}
 use Rattle.tables.proofs.Totals.{Totalling}
 use Rattle.tables.proofs.compiling.total.Given as goal

@@ -1,4 +1,4 @@
--- `tables::finding::first_record` meets its contract: the answer stays that of the records that are left. Assumes nothing.
+-- The loop of `tables::finding::first_record`: the answer stays that of the records that are left.
 use mathlib.Core.Path.{◌≡◌}
 use Prim.Native.Nat.{◌-◌, ◌*◌, ◌≤◌}
 use Rattle.records.specs.Layout.{record_size}

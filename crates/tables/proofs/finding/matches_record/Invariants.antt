@@ -1,5 +1,4 @@
--- `tables::finding::matches_record` meets its contract: what was gathered, and the bytes that are left, say what all bytes
--- do. Assumes nothing.
+-- The loop of `tables::finding::matches_record`: what was gathered, and the bytes that are left, say what all bytes do.
 use mathlib.Core.Path.{◌≡◌}
 use Prim.Native.Nat.{◌-◌, ◌≤◌}
 use Rattle.records.specs.Layout.{key_size}
