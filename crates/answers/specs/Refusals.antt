@@ -1,6 +1,8 @@
 -- The numbers of the refusals of documents 01 and 02, each named for what it is given for. Where several apply, the lowest
 -- is given; reading a sheet alone tests in an order of its own: long, many, line, room.
 use Rattle.std.specs.Prelude.{ℕ}
+use Rattle.answers.specs.declared.Refusal.{Refusal}
+use Rattle.answers.specs.declared.Refusal.TheVariants.{Width, Fit, Order, Room, Odd, Many, Rule, Space, Stated, Ill, Header, Line, Long}
 
 -- the width is not 1 .. 16
 abbrev pub width : ℕ
@@ -54,3 +56,19 @@ line = 20
 -- a sheet is too long
 abbrev pub long : ℕ
 long = 21
+
+-- the number of each
+abbrev pub number_of : Refusal → ℕ
+number_of Width = width
+number_of Fit = fit
+number_of Order = order
+number_of Room = room
+number_of Odd = odd
+number_of Many = many
+number_of Rule = rule
+number_of Space = space
+number_of Stated = stated
+number_of Ill = ill
+number_of Header = header
+number_of Line = line
+number_of Long = long

@@ -1,32 +1,36 @@
 // An answer as document 01 gives it ("When the tablet says no"): 0 where the call is done, else the refusal's number, and
-// then the values that come with it. What is not used is 0. The numbers are named as in specs/Refusals.antt.
+// then the values that come with it. What is not used is 0.
 #![tactic(auto)]
 
-pub const WIDTH: u32 = 1;
+ghost use Rattle.std.specs.Prelude.{◌≡◌};
+ghost use Rattle.answers.specs.Answers.{done, refused};
+ghost use Rattle.answers.specs.Refusals.{number_of};
 
-pub const FIT: u32 = 2;
+// What a call is refused for, with document 01's number. specs/Refusals.antt says when each is given.
+#[derive(Clone, Copy, Debug, PartialEq, Eq)]
+pub enum Refusal {
+    Width = 1,
+    Fit = 2,
+    Order = 3,
+    Room = 4,
+    Odd = 5,
+    Many = 6,
+    Rule = 7,
+    Space = 8,
+    Stated = 9,
+    Ill = 10,
+    Header = 11,
+    Line = 20,
+    Long = 21,
+}
 
-pub const ORDER: u32 = 3;
+impl From<Refusal> for u32 {
+    ghost from_gives = { λ why number. number ≡ number_of why };
 
-pub const ROOM: u32 = 4;
-
-pub const ODD: u32 = 5;
-
-pub const MANY: u32 = 6;
-
-pub const RULE: u32 = 7;
-
-pub const SPACE: u32 = 8;
-
-pub const STATED: u32 = 9;
-
-pub const ILL: u32 = 10;
-
-pub const HEADER: u32 = 11;
-
-pub const LINE: u32 = 20;
-
-pub const LONG: u32 = 21;
+    fn from(why: Refusal) -> u32 {
+        why as u32
+    }
+}
 
 #[repr(C)]
 #[derive(Clone, Copy)]
@@ -38,9 +42,22 @@ pub struct Answer {
     pub d: u32,
 }
 
-// The lowest index at which something was found.
-#[derive(Clone, Copy)]
-pub enum Lowest {
-    None,
-    At(usize),
+impl Answer {
+    pub fn done(a: u32, b: u32, c: u32, d: u32) -> Answer
+        ensures { result ≡ done a b c d }
+    {
+        Answer { no: 0, a, b, c, d }
+    }
+
+    pub fn refused(why: Refusal, a: u32, b: u32) -> Answer
+        ensures { result ≡ refused (number_of why) a b }
+    {
+        Answer {
+            no: why.into(),
+            a,
+            b,
+            c: 0,
+            d: 0,
+        }
+    }
 }

@@ -14,3 +14,4 @@ pub mod Sizes
 pub mod Shortest
 pub mod OneList
 pub mod Demand3
+pub mod Walking

@@ -3,3 +3,4 @@ pub mod Tests
 pub mod Blocks
 pub mod Lowest
 pub mod Counting
+pub mod Walked

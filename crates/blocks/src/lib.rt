@@ -1,24 +1,42 @@
-// Aligned blocks of an interval (document 01, "Intervals and words"): the lowest largest one, and how many there are.
-// The theory of blocks and ternary words stands beside it, in specs/ and proofs/, for every width.
+// Aligned blocks of an interval (document 01, "Intervals and words"): the lowest largest one, all of them as words, and how
+// many there are. The theory of blocks and ternary words stands beside it, in specs/ and proofs/, for every width.
 #![tactic(auto)]
 
-ghost use Rattle.std.specs.Prelude.{◌≡◌, ◌≤◌, min};
-ghost use Rattle.blocks.specs.Blocks.{Closed};
-ghost use Rattle.blocks.specs.Counting.{count_of};
+ghost use Rattle.std.specs.Prelude.{◌≡◌, ◌≤◌};
 ghost use Rattle.blocks.specs.Lowest.{Free};
+ghost use Rattle.blocks.specs.Tests.{formed?, matches?};
+
+mod intervals;
+mod words;
+
+pub use intervals::Interval;
+pub use words::Words;
 
 // A ternary word: a mask bit of 1 means that the bit counts, 0 is a don't care.
-#[derive(Clone, Copy)]
+#[derive(Clone, Copy, Debug, PartialEq, Eq)]
 pub struct Word {
     pub value: u16,
     pub mask: u16,
 }
 
-// The lesser of two numbers.
-fn lesser(a: u32, b: u32) -> u32
-    ensures { result ≡ min a b }
-{
-    if a < b { a } else { b }
+impl Word {
+    // No bit stands at n or above, and no value bit where the mask is 0.
+    pub fn formed(self, n: u32) -> bool
+        requires { n ≤ 16 }
+        ensures { result ≡ formed? n self }
+    {
+        let size = bits::power(n);
+        u32::from(self.value) < size
+            && u32::from(self.mask) < size
+            && self.value & self.mask == self.value
+    }
+
+    // Under the mask, x is the value.
+    pub fn matches(self, x: u16) -> bool
+        ensures { result ≡ matches? self x }
+    {
+        x & self.mask == self.value
+    }
 }
 
 // How many free bits the lowest largest block of next .. end - 1 has: the most, n at most, of a block that starts at next,
@@ -30,27 +48,5 @@ pub fn free_bits(n: u32, next: u32, end: u32) -> u32
     if end <= next {
         return 0;
     }
-    lesser(lesser(n, bits::low_zeros(next)), bits::highest(end - next))
-}
-
-// How many words a closed interval has (source document 000, theorem 3.2, with document 01's correction).
-// high + 1 is worked out in 32 bits, where it cannot become 0.
-pub fn count(n: u32, low: u32, high: u32) -> u32
-    requires { Closed n low high }
-    ensures { result ≡ count_of n low high }
-{
-    let b = high + 1;
-    let size = bits::power(n);
-    if low == 0 {
-        if b == size {
-            return 1;
-        }
-        return u32::count_ones(b);
-    }
-    let a = low - 1;
-    if b == size {
-        return n - bits::ones_below(a, n);
-    }
-    let s = bits::highest_apart(a, b);
-    s - bits::ones_below(a, s) + bits::ones_below(b, s)
+    n.min(bits::low_zeros(next)).min(bits::highest(end - next))
 }

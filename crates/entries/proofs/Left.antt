@@ -7,7 +7,8 @@ use native.Mathlib.Omega.{arith}
 use lib.ListN.{length, length-append}
 use Rattle.fields.specs.Writes.{write_at}
 use Rattle.fields.proofs.Writing.{write_length, write_more, write_none}
-use Rattle.records.specs.Entries.{Entry, table_bytes}
+use Rattle.records.specs.Entries.{table_bytes}
+use Rattle.records.specs.declared.Entry.{Entry}
 use Rattle.records.specs.Layout.{record_size}
 use Rattle.records.proofs.Reading.{length_table, table_append}
 use Rattle.entries.specs.Written.{Wrote}

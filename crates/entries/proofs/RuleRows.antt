@@ -6,7 +6,7 @@ use native.Mathlib.Omega.{arith}
 use lib.ListN.{length}
 use Rattle.bits.specs.Masks.{mask_of}
 use Rattle.blocks.specs.declared.Word.{Word}
-use Rattle.records.specs.Entries.{Entry}
+use Rattle.records.specs.declared.Entry.{Entry}
 use Rattle.records.specs.Keys.{key}
 use Rattle.records.specs.Layout.{record_size}
 use Rattle.records.specs.declared.Rule.{Rule}

@@ -6,7 +6,7 @@ use native.Mathlib.Nat.{add-zero, zero-add}
 use native.Mathlib.Omega.{arith}
 use lib.ListN.{length, take, drop, length-append}
 use lib.Seq.{take_at, drop_at}
-use Rattle.records.specs.Entries.{Entry}
+use Rattle.records.specs.declared.Entry.{Entry}
 use Rattle.records.specs.declared.Rule.{Rule}
 use Rattle.entries.specs.Words.{entries_of, needed, rule_entries}
 use Rattle.entries.proofs.RuleCounts.{length_rule}

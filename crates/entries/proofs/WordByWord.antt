@@ -14,7 +14,8 @@ use Rattle.blocks.proofs.Lowest.{first_block, free_end}
 use Rattle.blocks.proofs.Tiles.{tiles_none}
 use Rattle.fields.specs.Bytes.{Half}
 use Rattle.fields.specs.Writes.{write_at}
-use Rattle.records.specs.Entries.{Entry, entry_bytes, entry_of, table_bytes}
+use Rattle.records.specs.Entries.{entry_bytes, entry_of, table_bytes}
+use Rattle.records.specs.declared.Entry.{Entry}
 use Rattle.records.specs.Keys.{key}
 use Rattle.records.specs.Layout.{record_size}
 use Rattle.records.specs.declared.Key.{Key}

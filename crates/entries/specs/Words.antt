@@ -5,7 +5,8 @@ use Rattle.bits.specs.Masks.{mask_of}
 use Rattle.blocks.specs.Blocks.{words_of}
 use Rattle.blocks.specs.Words.{word}
 use Rattle.blocks.specs.declared.Word.{Word}
-use Rattle.records.specs.Entries.{Entry, entry_of}
+use Rattle.records.specs.Entries.{entry_of}
+use Rattle.records.specs.declared.Entry.{Entry}
 use Rattle.records.specs.Keys.{key}
 use Rattle.records.specs.declared.Key.{Key}
 use Rattle.records.specs.declared.Rule.{Rule}

@@ -59,3 +59,8 @@ unfolding write_at
 write_part d i s h =
     let l : length (drop i d) ≡ length d - i = length-drop i d in
     rw (rest_is d i, drop_of_length-le (drop i d) {i = length d - i} (omega arith), append-nil, zero-add, drop-drop)
+
+-- a part that is written whole
+pub mid_write : (d s u : List ℕ) (i k : ℕ) → u ≡ s → k ≡ length s → put_mid i k d u ≡ write_at d i s
+unfolding write_at
+mid_write d s u i k e z = rw (e, z) (simp drop-drop)

@@ -1,3 +1,2 @@
 pub mod Layouts
 pub mod Reading
-pub mod RuleLayout

@@ -10,7 +10,8 @@ use lib.Seq.{drop-drop}
 use Rattle.fields.specs.Bytes.{Bytes}
 use Rattle.fields.proofs.Numbers.{at2_small, at4_small}
 use Rattle.fields.proofs.Writing.{rest_is}
-use Rattle.records.specs.Entries.{Entry, entry_bytes, table_bytes}
+use Rattle.records.specs.Entries.{entry_bytes, table_bytes}
+use Rattle.records.specs.declared.Entry.{Entry}
 use Rattle.records.specs.Keys.{KeyFits, key_at, key_bytes}
 use Rattle.records.specs.Layout.{record_size, rule_size}
 use Rattle.records.specs.Rules.{RuleFits, rule_at, rules_of}

@@ -2,15 +2,10 @@
 use Rattle.std.specs.Prelude.{List, [], ◌∷◌, ◌++◌, ℕ, drop, get_or, take}
 use Rattle.records.specs.Keys.{key_bytes}
 use Rattle.records.specs.Layout.{action_at, key_size, number_at}
+use Rattle.records.specs.declared.Entry.{Entry}
 use Rattle.records.specs.declared.Key.{Key}
 
 -- a word of all five fields, the rule that it belongs to, and that rule's action
-pub record Entry : Type 0 where
-  pub value : Key
-  pub mask : Key
-  pub rule : ℕ
-  pub action : ℕ
-
 abbrev pub entry_of : Key → Key → ℕ → ℕ → Entry
 entry_of value mask rule action = record { value = value; mask = mask; rule = rule; action = action }
 

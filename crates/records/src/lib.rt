@@ -2,12 +2,16 @@
 // Sizes, offsets and limits are named here and in specs/ and nowhere else.
 #![tactic(auto)]
 
-ghost use Rattle.std.specs.Prelude.{◌≡◌, ◌+◌, ◌≤◌, length};
-ghost use Rattle.fields.specs.Writes.{write_at};
+ghost use Rattle.std.specs.Prelude.{◌≡◌};
 ghost use Rattle.records.specs.Keys.{key_at, key_bytes};
-ghost use Rattle.records.specs.Entries.{entry_bytes, entry_of};
-ghost use Rattle.records.specs.Layout.{key_size, record_size, rule_size};
-ghost use Rattle.records.specs.Rules.{ports_bytes, prefix_bytes, rule_at, rule_bytes};
+ghost use Rattle.records.specs.Entries.{entry_bytes};
+ghost use Rattle.records.specs.Rules.{rule_at, rule_bytes};
+
+mod actions;
+mod prefixes;
+
+pub use actions::{Action, UnknownAction};
+pub use prefixes::Prefix;
 
 // Bytes of a header, of a word's value and of its mask.
 pub const KEY_SIZE: usize = 13;
@@ -23,8 +27,6 @@ pub const RECORD_SIZE: usize = 28;
 pub const WORD_LIMIT: usize = 2048;
 // Bytes of the largest table.
 pub const TABLE_BYTES: usize = RECORD_SIZE * WORD_LIMIT;
-// The last action: permit, deny, permit and log, deny and log.
-pub const LAST_ACTION: u8 = 3;
 // Where a record's mask, rule number and action stand.
 pub const MASK_AT: usize = KEY_SIZE;
 
@@ -33,7 +35,7 @@ pub const NUMBER_AT: usize = 2 * KEY_SIZE;
 pub const ACTION_AT: usize = NUMBER_AT + 1;
 
 // What a header, a value or a mask holds.
-#[derive(Clone, Copy)]
+#[derive(Clone, Copy, Debug, PartialEq, Eq)]
 pub struct Key {
     pub proto: u8,
     pub src: u32,
@@ -42,8 +44,34 @@ pub struct Key {
     pub dport: u16,
 }
 
-// A rule's 21 bytes as numbers.
-#[derive(Clone, Copy)]
+impl Key {
+    pub fn from_bytes(s: &[u8; KEY_SIZE]) -> Key
+        ensures { result ≡ key_at s.now }
+    {
+        Key {
+            proto: s[0],
+            src: u32::from_be_bytes([s[1], s[2], s[3], s[4]]),
+            dst: u32::from_be_bytes([s[5], s[6], s[7], s[8]]),
+            sport: u16::from_be_bytes([s[9], s[10]]),
+            dport: u16::from_be_bytes([s[11], s[12]]),
+        }
+    }
+
+    pub fn to_bytes(self) -> [u8; KEY_SIZE]
+        ensures { result ≡ key_bytes self }
+    {
+        let [s0, s1, s2, s3] = self.src.to_be_bytes();
+        let [d0, d1, d2, d3] = self.dst.to_be_bytes();
+        let [sp0, sp1] = self.sport.to_be_bytes();
+        let [dp0, dp1] = self.dport.to_be_bytes();
+        [
+            self.proto, s0, s1, s2, s3, d0, d1, d2, d3, sp0, sp1, dp0, dp1,
+        ]
+    }
+}
+
+// A rule's 21 bytes as numbers. Nothing is tested yet: a bad rule has its bad fields here.
+#[derive(Clone, Copy, Debug, PartialEq, Eq)]
 pub struct Rule {
     pub flag: u8,
     pub proto: u8,
@@ -58,89 +86,78 @@ pub struct Rule {
     pub action: u8,
 }
 
-// The rule at the start of s.
-pub fn read_rule(s: &[u8]) -> Rule
-    requires { rule_size ≤ length s.now }
-    ensures { result ≡ rule_at s.now }
-{
-    Rule {
-        flag: s[0],
-        proto: s[1],
-        src: fields::get4(s, 2),
-        slen: s[6],
-        dst: fields::get4(s, 7),
-        dlen: s[11],
-        slow: fields::get2(s, 12),
-        shigh: fields::get2(s, 14),
-        dlow: fields::get2(s, 16),
-        dhigh: fields::get2(s, 18),
-        action: s[20],
+impl Rule {
+    pub fn from_bytes(s: &[u8; RULE_SIZE]) -> Rule
+        ensures { result ≡ rule_at s.now }
+    {
+        Rule {
+            flag: s[0],
+            proto: s[1],
+            src: u32::from_be_bytes([s[2], s[3], s[4], s[5]]),
+            slen: s[6],
+            dst: u32::from_be_bytes([s[7], s[8], s[9], s[10]]),
+            dlen: s[11],
+            slow: u16::from_be_bytes([s[12], s[13]]),
+            shigh: u16::from_be_bytes([s[14], s[15]]),
+            dlow: u16::from_be_bytes([s[16], s[17]]),
+            dhigh: u16::from_be_bytes([s[18], s[19]]),
+            action: s[20],
+        }
+    }
+
+    pub fn to_bytes(self) -> [u8; RULE_SIZE]
+        ensures { result ≡ rule_bytes self }
+    {
+        let [s0, s1, s2, s3] = self.src.to_be_bytes();
+        let [d0, d1, d2, d3] = self.dst.to_be_bytes();
+        let [sl0, sl1] = self.slow.to_be_bytes();
+        let [sh0, sh1] = self.shigh.to_be_bytes();
+        let [dl0, dl1] = self.dlow.to_be_bytes();
+        let [dh0, dh1] = self.dhigh.to_be_bytes();
+        [
+            self.flag,
+            self.proto,
+            s0,
+            s1,
+            s2,
+            s3,
+            self.slen,
+            d0,
+            d1,
+            d2,
+            d3,
+            self.dlen,
+            sl0,
+            sl1,
+            sh0,
+            sh1,
+            dl0,
+            dl1,
+            dh0,
+            dh1,
+            self.action,
+        ]
     }
 }
 
-fn put_prefix(t: &mut [u8], at: usize, address: u32, len: u8)
-    requires { at + 5 ≤ length t.old }
-    ensures { t.new ≡ write_at t.old at (prefix_bytes address len) }
-{
-    fields::put4(t, at, address);
-    fields::put1(t, at + 4, len);
+// A table record: a word of all five fields, the number of the rule that it belongs to, and that rule's action.
+#[derive(Clone, Copy, Debug, PartialEq, Eq)]
+pub struct Entry {
+    pub value: Key,
+    pub mask: Key,
+    pub rule: u8,
+    pub action: u8,
 }
 
-fn put_ports(t: &mut [u8], at: usize, low: u16, high: u16)
-    requires { at + 4 ≤ length t.old }
-    ensures { t.new ≡ write_at t.old at (ports_bytes low high) }
-{
-    fields::put2(t, at, low);
-    fields::put2(t, at + 2, high);
-}
-
-// Writes a rule.
-pub fn put_rule(t: &mut [u8], at: usize, r: Rule)
-    requires { at + rule_size ≤ length t.old }
-    ensures { t.new ≡ write_at t.old at (rule_bytes r) }
-{
-    fields::put1(t, at, r.flag);
-    fields::put1(t, at + 1, r.proto);
-    put_prefix(t, at + 2, r.src, r.slen);
-    put_prefix(t, at + 7, r.dst, r.dlen);
-    put_ports(t, at + 12, r.slow, r.shigh);
-    put_ports(t, at + 16, r.dlow, r.dhigh);
-    fields::put1(t, at + 20, r.action);
-}
-
-// The header at the start of s.
-pub fn read_key(s: &[u8]) -> Key
-    requires { key_size ≤ length s.now }
-    ensures { result ≡ key_at s.now }
-{
-    Key {
-        proto: s[0],
-        src: fields::get4(s, 1),
-        dst: fields::get4(s, 5),
-        sport: fields::get2(s, 9),
-        dport: fields::get2(s, 11),
+impl Entry {
+    pub fn to_bytes(self) -> [u8; RECORD_SIZE]
+        ensures { result ≡ entry_bytes self }
+    {
+        let mut bytes = [0; RECORD_SIZE];
+        fields::put(&mut bytes, 0, &self.value.to_bytes());
+        fields::put(&mut bytes, MASK_AT, &self.mask.to_bytes());
+        fields::put(&mut bytes, NUMBER_AT, &[self.rule]);
+        fields::put(&mut bytes, ACTION_AT, &[self.action]);
+        bytes
     }
-}
-
-// Writes a key laid out as a header.
-pub fn put_key(t: &mut [u8], at: usize, k: Key)
-    requires { at + key_size ≤ length t.old }
-    ensures { t.new ≡ write_at t.old at (key_bytes k) }
-{
-    fields::put1(t, at, k.proto);
-    fields::put4(t, at + 1, k.src);
-    fields::put4(t, at + 5, k.dst);
-    fields::put2(t, at + 9, k.sport);
-    fields::put2(t, at + 11, k.dport);
-}
-
-// Writes a table record.
-pub fn put_record(t: &mut [u8], at: usize, value: Key, mask: Key, number: u8, action: u8)
-    requires { at + record_size ≤ length t.old }
-    ensures { t.new ≡ write_at t.old at (entry_bytes (entry_of value mask number action)) }
-{
-    put_key(t, at, value);
-    put_key(t, at + MASK_AT, mask);
-    fields::put1(t, at + NUMBER_AT, number);
-    fields::put1(t, at + ACTION_AT, action);
 }

@@ -2,3 +2,4 @@ pub mod Faults
 pub mod Lowest
 pub mod Meaning
 pub mod Finding
+pub mod Lists

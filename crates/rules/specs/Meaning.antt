@@ -1,18 +1,15 @@
 -- What a rule matches, and reading a rule list from the top (document 01: a rule matches when all five fields do, ports
 -- being compared whatever the protocol; the first matching rule applies).
-use Rattle.std.specs.Prelude.{Bool, ◌&&◌, ◌||◌, List, [], ◌∷◌, ℕ, ◌+◌, ◌-◌, ◌/◌, ◌^◌, eqb, leb, if◌then◌else◌}
+use Rattle.std.specs.Prelude.{Bool, ◌&&◌, ◌||◌, List, [], ◌∷◌, ℕ, ◌+◌, eqb, leb, if◌then◌else◌}
 use Rattle.answers.specs.Answers.{done}
 use Rattle.answers.specs.declared.Answer.{Answer}
+use Rattle.records.specs.Prefixes.{addr_match}
 use Rattle.records.specs.declared.Key.{Key}
 use Rattle.records.specs.declared.Rule.{Rule}
 
 -- flag 1 is any protocol
 abbrev pub proto_match : Rule → ℕ → Bool
 proto_match r x = eqb r.flag 1 || eqb x r.proto
-
--- the first len of 32 bits are the same
-abbrev pub addr_match : ℕ → ℕ → ℕ → Bool
-addr_match a len x = eqb (x / 2 ^ (32 - len)) (a / 2 ^ (32 - len))
 
 abbrev pub port_match : ℕ → ℕ → ℕ → Bool
 port_match low high x = leb low x && leb x high

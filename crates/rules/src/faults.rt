@@ -1,96 +1,106 @@
 // The tests of a rule list, lowest number first: 5, 6, and 7 with the lowest bad rule and its first bad field.
-ghost use Rattle.std.specs.Prelude.{◌≡◌, ◌≤◌};
-ghost use Rattle.rules.specs.Faults.{bad_field, beyond?, spare?, tested_rules};
+ghost use Rattle.std.specs.Prelude.{IfOk, ◌≡◌};
+ghost use Rattle.records.specs.Rules.{all_rules};
+ghost use Rattle.rules.specs.Faults.{bad_field, field_number, field_or_0, tested_rules};
+ghost use Rattle.rules.specs.Lists.{rules_in, tested_as};
 
-use records::{LAST_ACTION, RULE_LIMIT, RULE_SIZE, Rule};
+use crate::lists::RuleList;
+use records::{Action, Prefix, RULE_LIMIT, RULE_SIZE, Rule};
 
-#[derive(Clone, Copy)]
+// The tests of a rule's fields, by document 01's numbers.
+#[derive(Clone, Copy, Debug, PartialEq, Eq)]
+pub enum Field {
+    // The flag is 0 or 1.
+    Flag = 1,
+    // No protocol stands under the flag for any.
+    Spare = 2,
+    SourceLength = 3,
+    SourceBits = 4,
+    DestLength = 5,
+    DestBits = 6,
+    SourcePorts = 7,
+    DestPorts = 8,
+    Action = 9,
+}
+
+impl From<Field> for u32 {
+    ghost from_gives = { λ field number. number ≡ field_number field };
+
+    fn from(field: Field) -> u32 {
+        field as u32
+    }
+}
+
+#[derive(Clone, Copy, Debug, PartialEq, Eq)]
 pub enum ListFault {
     // 5: the length is no multiple of a rule's.
     Odd,
     // 6: there are too many rules.
     Many,
     // 7: the lowest bad rule, and its first bad field.
-    Bad(u32, u8),
+    Bad { rule: u32, field: Field },
 }
 
-#[derive(Clone, Copy)]
-pub enum ListTest {
-    Good,
-    Refused(ListFault),
-}
-
-// An address of 32 bits has one set beyond its first len.
-fn beyond(x: u32, len: u8) -> bool
-    requires { len ≤ 32 }
-    ensures { result ≡ beyond? x len }
-{
-    (x as u64) % (1u64 << (32 - len)) != 0
-}
-
-// A protocol stands under the flag for any.
-fn spare(r: Rule) -> bool
-    ensures { result ≡ spare? r }
-{
-    if r.flag == 1 {
-        return r.proto != 0;
-    }
-    false
-}
-
-// The first bad field of a rule, or 0.
-fn bad_field(r: Rule) -> u8
-    ensures { result ≡ bad_field r }
+// The first bad field of a rule.
+fn bad_field(r: Rule) -> Option<Field>
+    ensures { field_or_0 result ≡ bad_field r }
 {
     if 1 < r.flag {
-        return 1;
+        return Some(Field::Flag);
     }
-    if spare(r) {
-        return 2;
+    if r.flag == 1 && r.proto != 0 {
+        return Some(Field::Spare);
     }
     if 32 < r.slen {
-        return 3;
+        return Some(Field::SourceLength);
     }
-    if beyond(r.src, r.slen) {
-        return 4;
+    let source = Prefix {
+        address: r.src,
+        len: r.slen,
+    };
+    if source.beyond() {
+        return Some(Field::SourceBits);
     }
     if 32 < r.dlen {
-        return 5;
+        return Some(Field::DestLength);
     }
-    if beyond(r.dst, r.dlen) {
-        return 6;
+    let dest = Prefix {
+        address: r.dst,
+        len: r.dlen,
+    };
+    if dest.beyond() {
+        return Some(Field::DestBits);
     }
     if r.shigh < r.slow {
-        return 7;
+        return Some(Field::SourcePorts);
     }
     if r.dhigh < r.dlow {
-        return 8;
+        return Some(Field::DestPorts);
     }
-    if LAST_ACTION < r.action {
-        return 9;
+    if Action::try_from(r.action).is_err() {
+        return Some(Field::Action);
     }
-    0
+    None
 }
 
-pub fn test_rules(rules: &[u8]) -> ListTest
-    ensures { result ≡ tested_rules rules.now }
+pub fn test_rules(rules: &[u8]) -> Result<RuleList<'_>, ListFault>
+    ensures says { tested_as result ≡ tested_rules rules.now }
+    ensures holds { IfOk result (λ list. rules_in list.records.now ≡ all_rules rules.now) }
 {
-    if rules.len() % RULE_SIZE != 0 {
-        return ListTest::Refused(ListFault::Odd);
+    let (records, rest) = rules.as_chunks::<RULE_SIZE>();
+    if !rest.is_empty() {
+        return Err(ListFault::Odd);
     }
-    let n = rules.len() / RULE_SIZE;
-    if RULE_LIMIT < n {
-        return ListTest::Refused(ListFault::Many);
+    if RULE_LIMIT < records.len() {
+        return Err(ListFault::Many);
     }
-    let mut i: usize = 0;
-    let mut at: usize = 0;
-    while i < n {
-        let f = bad_field(records::read_rule(&rules[at..]));
-        if f != 0 {
-            return ListTest::Refused(ListFault::Bad(i as u32, f));
+    for (i, record) in records.iter().enumerate() {
+        if let Some(field) = bad_field(Rule::from_bytes(record)) {
+            return Err(ListFault::Bad {
+                rule: i as u32,
+                field,
+            });
         }
-        at += RULE_SIZE;
-        i += 1;
     }
-    ListTest::Good
+    Ok(RuleList { records })
 }

@@ -1,105 +1,81 @@
 // Which rule a header finds: the first of the list that matches it in all five fields.
 ghost use Rattle.std.specs.Prelude.{◌≡◌, ◌≤◌};
-ghost use Rattle.records.specs.Rules.{all_rules};
-ghost use Rattle.rules.specs.Faults.{tested_rules};
-ghost use Rattle.rules.specs.Finding.{finding, finding_good, found_as};
-ghost use Rattle.rules.specs.Meaning.{addr_match, first_rule, port_match, proto_match, rule_match};
-ghost use Rattle.rules.specs.declared.faults.ListTest.TheVariants.{Good};
+ghost use Rattle.rules.specs.Finding.{find_fault, finding, found_as, rule_found};
+ghost use Rattle.rules.specs.Lists.{rules_in};
+ghost use Rattle.rules.specs.Meaning.{first_rule, port_match, rule_match};
 
-use crate::faults::{ListFault, ListTest, test_rules};
-use records::{KEY_SIZE, Key, RULE_SIZE, Rule};
+use crate::faults::{ListFault, test_rules};
+use crate::lists::RuleList;
+use records::{Action, KEY_SIZE, Key, Prefix, Rule};
 
-#[derive(Clone, Copy)]
-pub enum Found {
-    // The first matching rule's number from 0, and its action.
-    Rule(u32, u8),
-    Nothing,
-    Refused(ListFault),
+// A rule's number from 0, and its action.
+#[derive(Clone, Copy, Debug, PartialEq, Eq)]
+pub struct Found {
+    pub rule: u32,
+    pub action: Action,
+}
+
+#[derive(Clone, Copy, Debug, PartialEq, Eq)]
+pub enum FindError {
+    Rules(ListFault),
     // 11: the header has not 13 bytes.
     Header,
 }
 
-fn proto_matches(r: Rule, x: u8) -> bool
-    ensures { result ≡ proto_match r x }
-{
-    if r.flag == 1 {
-        return true;
-    }
-    x == r.proto
-}
+impl From<ListFault> for FindError {
+    ghost from_gives = { λ fault error. error ≡ find_fault fault };
 
-// The first len of 32 bits are the same.
-fn addr_matches(a: u32, len: u8, x: u32) -> bool
-    requires { len ≤ 32 }
-    ensures { result ≡ addr_match a len x }
-{
-    let size = 1u64 << (32 - len);
-    (x as u64) / size == (a as u64) / size
+    fn from(fault: ListFault) -> FindError {
+        FindError::Rules(fault)
+    }
 }
 
 fn port_matches(low: u16, high: u16, x: u16) -> bool
     ensures { result ≡ port_match low high x }
 {
-    if low <= x {
-        return x <= high;
-    }
-    false
+    low <= x && x <= high
 }
 
 fn rule_matches(r: Rule, h: Key) -> bool
     requires { (r.slen ≤ 32) × (r.dlen ≤ 32) }
     ensures { result ≡ rule_match r h }
 {
-    if !proto_matches(r, h.proto) {
-        return false;
-    }
-    if !addr_matches(r.src, r.slen, h.src) {
-        return false;
-    }
-    if !addr_matches(r.dst, r.dlen, h.dst) {
-        return false;
-    }
-    if !port_matches(r.slow, r.shigh, h.sport) {
-        return false;
-    }
-    port_matches(r.dlow, r.dhigh, h.dport)
+    let source = Prefix {
+        address: r.src,
+        len: r.slen,
+    };
+    let dest = Prefix {
+        address: r.dst,
+        len: r.dlen,
+    };
+    (r.flag == 1 || h.proto == r.proto)
+        && source.matches(h.src)
+        && dest.matches(h.dst)
+        && port_matches(r.slow, r.shigh, h.sport)
+        && port_matches(r.dlow, r.dhigh, h.dport)
 }
 
 // Reads a well-formed list from the top.
-fn first_rule(rules: &[u8], h: Key) -> Found
-    requires { tested_rules rules.now ≡ Good }
-    ensures { found_as result ≡ first_rule 0 (all_rules rules.now) h }
+fn first_rule(list: RuleList<'_>, h: Key) -> Option<Found>
+    ensures { rule_found result ≡ first_rule 0 (rules_in list.entry.records.now) h }
 {
-    let n = rules.len() / RULE_SIZE;
-    let mut i: usize = 0;
-    let mut at: usize = 0;
-    while i < n {
-        let r = records::read_rule(&rules[at..]);
+    for (i, record) in list.records.iter().enumerate() {
+        let r = Rule::from_bytes(record);
         if rule_matches(r, h) {
-            return Found::Rule(i as u32, r.action);
+            return Some(Found {
+                rule: i as u32,
+                action: Action::try_from(r.action).unwrap(),
+            });
         }
-        at += RULE_SIZE;
-        i += 1;
     }
-    Found::Nothing
+    None
 }
 
-// The answer on a well-formed list.
-fn find_good(rules: &[u8], header: &[u8]) -> Found
-    requires { tested_rules rules.now ≡ Good }
-    ensures { found_as result ≡ finding_good rules.now header.now }
-{
-    if header.len() != KEY_SIZE {
-        return Found::Header;
-    }
-    first_rule(rules, records::read_key(header))
-}
-
-pub fn find_rule(rules: &[u8], header: &[u8]) -> Found
+// The first matching rule, or nothing where none matches.
+pub fn find_rule(rules: &[u8], header: &[u8]) -> Result<Option<Found>, FindError>
     ensures { found_as result ≡ finding rules.now header.now }
 {
-    match test_rules(rules) {
-        ListTest::Refused(f) => Found::Refused(f),
-        ListTest::Good => find_good(rules, header),
-    }
+    let list = test_rules(rules)?;
+    let bytes = header.as_array::<KEY_SIZE>().ok_or(FindError::Header)?;
+    Ok(first_rule(list, Key::from_bytes(bytes)))
 }

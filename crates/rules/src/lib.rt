@@ -3,11 +3,13 @@
 //   test_rules  the tests of a rule list, which every call on one makes first
 //   find_rule   the first rule that matches a header
 //
-// A list is the rules' 21-byte records, one after the other. Any bytes may come.
+// A list is the rules' 21-byte records, one after the other. Any bytes may come; a RuleList is one that has passed the tests.
 #![tactic(auto)]
 
 mod faults;
 mod finding;
+mod lists;
 
-pub use faults::{ListFault, ListTest, test_rules};
-pub use finding::{Found, find_rule};
+pub use faults::{Field, ListFault, test_rules};
+pub use finding::{FindError, Found, find_rule};
+pub use lists::RuleList;

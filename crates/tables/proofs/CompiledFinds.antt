@@ -24,7 +24,8 @@ use Rattle.fields.proofs.Writing.{length_write}
 use Rattle.fields.specs.Bytes.{Bytes}
 use Rattle.fields.specs.Writes.{write_at}
 use Rattle.records.proofs.Reading.{length_table, rule_fits}
-use Rattle.records.specs.Entries.{Entry, table_bytes}
+use Rattle.records.specs.Entries.{table_bytes}
+use Rattle.records.specs.declared.Entry.{Entry}
 use Rattle.records.specs.Layout.{key_size, room_of, rule_size}
 use Rattle.records.specs.Rules.{all_rules, rule_at, rules_of}
 use Rattle.rules.proofs.Goods.{fine, good_list, good_next}

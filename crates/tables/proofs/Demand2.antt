@@ -12,7 +12,8 @@ use Rattle.std.specs.Prelude.{if◌then◌else◌}
 use Rattle.entries.specs.Words.{entries_of, rule_entries}
 use Rattle.fields.specs.Bytes.{Bytes}
 use Rattle.records.proofs.Reading.{key_fits}
-use Rattle.records.specs.Entries.{Entry, entry_bytes, table_bytes}
+use Rattle.records.specs.Entries.{entry_bytes, table_bytes}
+use Rattle.records.specs.declared.Entry.{Entry}
 use Rattle.records.specs.Keys.{KeyFits, key_at, key_bytes}
 use Rattle.records.specs.Layout.{key_size}
 use Rattle.records.specs.declared.Key.{Key}

@@ -13,7 +13,8 @@ use Rattle.entries.specs.Written.{Wrote}
 use Rattle.fields.proofs.Writing.{write_part}
 use Rattle.fields.specs.Writes.{write_at}
 use Rattle.records.proofs.Reading.{rules_from, rules_none, rules_start, rules_turn}
-use Rattle.records.specs.Entries.{Entry, table_bytes}
+use Rattle.records.specs.Entries.{table_bytes}
+use Rattle.records.specs.declared.Entry.{Entry}
 use Rattle.records.specs.Layout.{record_size, rule_size}
 use Rattle.records.specs.Rules.{rules_of}
 use Rattle.records.specs.declared.Rule.{Rule}

@@ -10,7 +10,8 @@ use borrow.Author.Tests.{le-leb}
 use Rattle.answers.specs.declared.Lowest.TheVariants.{At, None}
 use Rattle.std.specs.Prelude.{if◌then◌else◌}
 use Rattle.entries.specs.Words.{entries_of, rule_entries}
-use Rattle.records.specs.Entries.{Entry, entry_bytes, table_bytes}
+use Rattle.records.specs.Entries.{entry_bytes, table_bytes}
+use Rattle.records.specs.declared.Entry.{Entry}
 use Rattle.records.specs.Keys.{key_bytes}
 use Rattle.records.specs.declared.Rule.{Rule}
 use Rattle.tables.proofs.Headers.{match_key}

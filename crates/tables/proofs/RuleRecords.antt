@@ -10,7 +10,7 @@ use Rattle.blocks.proofs.Agreement.{formed_and}
 use Rattle.blocks.specs.Words.{AllFormed}
 use Rattle.blocks.specs.declared.Word.{Word}
 use Rattle.entries.specs.Words.{dest_words, each, entry_with, proto_words, rule_entries, source_words}
-use Rattle.records.specs.Entries.{Entry}
+use Rattle.records.specs.declared.Entry.{Entry}
 use Rattle.records.specs.declared.Rule.{Rule}
 use Rattle.tables.specs.Meaning.{Sound, entry_matches, key_match}
 use Rattle.tables.proofs.FieldWords.{addr_own, hit, proto_own, words_formed}

@@ -4,7 +4,7 @@ use Rattle.std.specs.Prelude.{Bool, true, false, ◌&&◌, ◌||◌, List, [], �
 use Rattle.answers.specs.declared.Answer.{Answer}
 use Rattle.blocks.specs.Tests.{matches?}
 use Rattle.blocks.specs.Words.{word}
-use Rattle.records.specs.Entries.{Entry}
+use Rattle.records.specs.declared.Entry.{Entry}
 use Rattle.records.specs.Layout.{last_action}
 use Rattle.records.specs.Rules.{RuleFits}
 use Rattle.records.specs.declared.Key.{Key}

@@ -10,4 +10,4 @@ returns-then-end-next c = free_none _ _ _ (omega arith)
 pub returns : goal.returns
 returns c =
     free_law _ _ _ _ (omega arith) c.low_zeros.ensures c.highest.ensures _ _ _ (omega arith)
-    c.lesser.ensures c.lesser-2.ensures
+    c.min.ensures c.min-2.ensures
