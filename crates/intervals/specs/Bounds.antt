@@ -1,20 +1,19 @@
 -- Open bounds (A, B) and the closed interval A + 1 .. B - 1 (document 01, "Intervals and words").
-use Rattle.std.specs.Prelude.{Bool, ◌&&◌, ◌||◌, not, ℕ, zero, suc, ◌+◌, ◌-◌, ◌^◌, ltb, ℤ, pos, negsuc, ◌+ℤ◌, nat_abs, if◌then◌else◌}
+use Rattle.std.specs.Prelude.{Bool, ◌&&◌, ◌||◌, not, Option, None, Some, Result, ℕ, zero, suc, ◌+◌, ◌-◌, ◌^◌, ltb, ℤ, pos, negsuc, ◌+ℤ◌, nat_abs, if◌then◌else◌}
 use Rattle.std.specs.Int.Signed.{le_z, lt_z}
-use Rattle.answers.specs.Answers.{done, refused}
+use Rattle.answers.specs.Answers.{answer_of, done, refused}
 use Rattle.answers.specs.Refusals as refusal
 use Rattle.answers.specs.declared.Answer.{Answer}
-use Rattle.intervals.specs.Ends.{number_of}
-use Rattle.intervals.specs.declared.bounds.Closed.{Closed}
-use Rattle.intervals.specs.declared.bounds.Closed.TheVariants.{Range, Refused}
-use Rattle.intervals.specs.declared.bounds.Place.{Place}
-use Rattle.intervals.specs.declared.bounds.Place.TheVariants.{Past, Outside}
-use Rattle.intervals.specs.declared.ends.Fault.TheVariants.{Fit, Order}
+use Rattle.blocks.specs.declared.intervals.Interval.{Interval}
+use Rattle.intervals.specs.Ends.{fault_as}
+use Rattle.intervals.specs.declared.ends.Fault.{Fault}
 
 -- document 01's number and values for each answer
-abbrev pub closed_as : Closed → Answer
-closed_as (Range low high) = done low high 0 0
-closed_as (Refused f) = refused (number_of f) 0 0
+abbrev pub interval_as : Interval → Answer
+interval_as i = done i.low i.high 0 0
+
+abbrev pub closed_as : Result Interval Fault → Answer
+closed_as = answer_of interval_as fault_as
 
 -- the bound lies in -1 .. 2 ^ n
 abbrev pub bound_fits? : ℕ → ℤ → Bool
@@ -30,12 +29,7 @@ closing n a b =
 
 -- ---- as the code goes: each bound by how far it stands past -1
 
-abbrev pub place : ℤ → ℕ → Place
-place (pos k) top = if ltb top k then Outside else Past (k + 1)
-place (negsuc zero) top = Past 0
-place (negsuc (suc k)) top = Outside
-
-unfoldable pub ends : Place → Place → Closed
-ends Outside y = Refused Fit
-ends (Past p) Outside = Refused Fit
-ends (Past p) (Past q) = if ltb q (p + 2) then Refused Order else Range p (q - 2)
+abbrev pub place : ℤ → ℕ → Option ℕ
+place (pos k) top = if ltb top k then None else Some (k + 1)
+place (negsuc zero) top = Some 0
+place (negsuc (suc k)) top = None

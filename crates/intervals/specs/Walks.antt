@@ -1,14 +1,11 @@
 -- A walk over an interval's words (document 01, "One by one").
-use Rattle.std.specs.Prelude.{true, false, List, [], ◌∷◌, ℕ, zero, suc, ◌+◌, ◌^◌, ltb, if◌then◌else◌}
+use Rattle.std.specs.Prelude.{true, false, List, [], ◌∷◌, ℕ, zero, suc, ◌+◌, ◌^◌, Option, None, Some, Result, Ok, Err, ltb, if◌then◌else◌}
 use Rattle.bits.specs.Masks.{mask_of}
 use Rattle.blocks.specs.Lowest.{free_of}
 use Rattle.blocks.specs.Words.{word}
 use Rattle.blocks.specs.declared.Word.{Word}
 use Rattle.intervals.specs.Ends.{number_of, tested}
-use Rattle.intervals.specs.declared.ends.Tested.{Tested}
-use Rattle.intervals.specs.declared.ends.Tested.TheVariants.{Good, Bad}
-use Rattle.intervals.specs.declared.walks.Gave.{Gave}
-use Rattle.intervals.specs.declared.walks.Gave.TheVariants.{Next, NoMore, Refused}
+use Rattle.intervals.specs.declared.ends.Fault.{Fault}
 use Rattle.intervals.specs.declared.walks.Step.{Step}
 use Rattle.intervals.specs.declared.walks.Walk.{Walk}
 
@@ -20,15 +17,6 @@ pub record Stepped : Type 0 where
   pub word : Word
   pub walk : Walk
 
-abbrev pub stepped_by : Gave → Word → Walk → Stepped
-stepped_by Next v w = record { no = 0; given = 1; word = v; walk = w }
-stepped_by NoMore v w = record { no = 0; given = 0; word = v; walk = w }
-stepped_by (Refused f) v w = record { no = number_of f; given = 0; word = v; walk = w }
-
--- document 01's number and values for each answer
-abbrev pub stepped_as : Step → Stepped
-stepped_as s = stepped_by s.gave s.word s.walk
-
 abbrev pub zeros : Word
 zeros = word 0 0
 
@@ -37,6 +25,15 @@ walk_of n low high = record { width = n; next = low; last = high; ended = false 
 
 abbrev pub ended_at : ℕ → ℕ → ℕ → Walk
 ended_at n low high = record { width = n; next = low; last = high; ended = true }
+
+-- document 01's number and values for each answer to the walk w, which comes back where no word was given
+abbrev pub stepped_by : Step → Stepped
+stepped_by s = record { no = 0; given = 1; word = s.word; walk = s.walk }
+
+abbrev pub stepped_as : Walk → Result (Option Step) Fault → Stepped
+stepped_as w (Ok (Some s)) = stepped_by s
+stepped_as w (Ok None) = record { no = 0; given = 0; word = zeros; walk = w }
+stepped_as w (Err f) = record { no = number_of f; given = 0; word = zeros; walk = w }
 
 -- the block of k free bits from the next value on, and the walk after it
 unfoldable pub gives : Walk → ℕ → Stepped
@@ -49,9 +46,9 @@ gives w k =
       walk = if ltb w.last past then ended_at w.width w.next w.last else walk_of w.width past w.last;
     }
 
-unfoldable pub stepped_from : Tested → Walk → Stepped
-stepped_from Good w = gives w (free_of w.width w.next (w.last + 1))
-stepped_from (Bad f) w = record { no = number_of f; given = 0; word = zeros; walk = w }
+unfoldable pub stepped_from : Result Unit Fault → Walk → Stepped
+stepped_from (Ok x) w = gives w (free_of w.width w.next (w.last + 1))
+stepped_from (Err f) w = record { no = number_of f; given = 0; word = zeros; walk = w }
 
 -- One step: an ended walk says "no more" and comes back unchanged, whatever it holds. Any other is tested as an interval is,
 -- and then gives the lowest largest block of next .. last.

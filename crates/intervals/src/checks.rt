@@ -1,123 +1,91 @@
 // Somebody else's ternary words against an interval (document 01, "Checking a list").
-ghost use Rattle.std.specs.Prelude.{◌≡◌, ◌*◌, ◌^◌, ◌≤◌, ◌<◌, length};
-ghost use Rattle.blocks.specs.Blocks.{Closed};
-ghost use Rattle.blocks.specs.Tests.{formed?, some?};
-ghost use Rattle.intervals.specs.Checks.{agree?, checked_as, checking, first_ill, judged, verdict, words_from};
+ghost use Rattle.std.specs.Prelude.{◌≡◌, ◌^◌, ◌≤◌, ◌<◌};
+ghost use Rattle.blocks.specs.Tests.{some?};
+ghost use Rattle.intervals.specs.Checks.{agree?, check_refused, checked_as, checking, first_ill, verdict, verdict_as, word_in, words_in};
 
-use crate::ends::{Fault, Tested, test_ends};
-use answers::Lowest;
+use crate::ends::{Fault, test_ends};
+use blocks::{Interval, Word};
 
-#[derive(Clone, Copy)]
-pub enum Checked {
-    Yes,
-    // The smallest value on which the words and the interval disagree.
-    Differs(u32),
-    Refused(Fault),
+#[derive(Clone, Copy, Debug, PartialEq, Eq)]
+pub enum CheckError {
+    Ends(Fault),
     // 9: the stated count of words exceeds the list.
     Stated,
     // 10: the lowest index of an ill-formed word.
     Ill(usize),
 }
 
-fn formed(n: u32, value: u16, mask: u16) -> bool
-    requires { n ≤ 16 }
-    ensures { result ≡ formed? n (record { value = value; mask = mask }) }
+impl From<Fault> for CheckError {
+    ghost from_gives = { λ fault error. error ≡ check_refused fault };
+
+    fn from(fault: Fault) -> CheckError {
+        CheckError::Ends(fault)
+    }
+}
+
+// A word of two numbers, value and mask.
+fn word_of(pair: [u16; 2]) -> Word
+    ensures { result ≡ word_in pair }
 {
-    let size = bits::power(n);
-    if size <= value as u32 {
-        return false;
-    }
-    if size <= mask as u32 {
-        return false;
-    }
-    value & mask == value
+    let [value, mask] = pair;
+    Word { value, mask }
 }
 
 // The lowest index of an ill-formed word.
-fn first_ill(n: u32, list: &[u16], k: usize) -> Lowest
-    requires width { n ≤ 16 }
-    requires words { 2 * k ≤ length list.now }
-    ensures { result ≡ first_ill n 0 (words_from 0 k list.now) }
+fn first_ill(n: u32, words: &[[u16; 2]]) -> Option<usize>
+    requires { n ≤ 16 }
+    ensures { result ≡ first_ill n 0 (words_in words.now) }
 {
-    let mut i: usize = 0;
-    while i < k {
-        if formed(n, list[2 * i], list[2 * i + 1]) {
-            i += 1;
-        } else {
-            return Lowest::At(i);
+    for (i, pair) in words.iter().enumerate() {
+        if !word_of(*pair).formed(n) {
+            return Some(i);
         }
     }
-    Lowest::None
+    None
 }
 
-// One of the first k words matches x.
-fn some_match(list: &[u16], k: usize, x: u16) -> bool
-    requires { 2 * k ≤ length list.now }
-    ensures { result ≡ some? (words_from 0 k list.now) x }
+// One of the words matches x.
+fn some_match(words: &[[u16; 2]], x: u16) -> bool
+    ensures { result ≡ some? (words_in words.now) x }
 {
-    let mut i: usize = 0;
-    while i < k {
-        if x & list[2 * i + 1] == list[2 * i] {
+    for pair in words {
+        if word_of(*pair).matches(x) {
             return true;
         }
-        i += 1;
     }
     false
 }
 
 // The interval and the words agree at x.
-fn agrees(low: u32, high: u32, list: &[u16], k: usize, x: u32) -> bool
-    requires words { 2 * k ≤ length list.now }
-    requires value { x < 65536 }
-    ensures { result ≡ agree? low high (words_from 0 k list.now) x }
+fn agrees(interval: Interval, words: &[[u16; 2]], x: u32) -> bool
+    requires { x < 65536 }
+    ensures { result ≡ agree? interval.low interval.high (words_in words.now) x }
 {
-    let m = some_match(list, k, x as u16);
-    if x < low {
-        return !m;
-    }
-    if high < x {
-        return !m;
-    }
-    m
+    let inside = interval.low <= x && x <= interval.high;
+    inside == some_match(words, x as u16)
 }
 
-// The answer where all words are well formed.
-fn judge(n: u32, low: u32, high: u32, list: &[u16], k: usize) -> Checked
-    requires words { 2 * k ≤ length list.now }
-    requires width { n ≤ 16 }
-    ensures { checked_as result ≡ verdict (2 ^ n) 0 low high (words_from 0 k list.now) }
+// The smallest value on which the words and the interval disagree.
+fn first_difference(interval: Interval, words: &[[u16; 2]]) -> Option<u32>
+    ensures { verdict_as result ≡ verdict (2 ^ interval.width) 0 interval.low interval.high (words_in words.now) }
 {
-    let size = bits::power(n);
-    let mut x: u32 = 0;
-    while x < size {
-        if agrees(low, high, list, k, x) {
-            x += 1;
-        } else {
-            return Checked::Differs(x);
+    for x in 0..bits::power(interval.width) {
+        if !agrees(interval, words, x) {
+            return Some(x);
         }
     }
-    Checked::Yes
+    None
 }
 
-// The answer where the interval is good.
-fn check_good(n: u32, low: u32, high: u32, list: &[u16], k: usize) -> Checked
-    requires { Closed n low high }
-    ensures { checked_as result ≡ judged n low high list.now k }
-{
-    if list.len() / 2 < k {
-        return Checked::Stated;
-    }
-    match first_ill(n, list, k) {
-        Lowest::At(i) => Checked::Ill(i),
-        Lowest::None => judge(n, low, high, list, k),
-    }
-}
-
-pub fn check(n: u32, low: u32, high: u32, list: &[u16], k: usize) -> Checked
+// Nothing where the first k words match exactly the interval, else the smallest value on which they disagree.
+pub fn check(n: u32, low: u32, high: u32, list: &[u16], k: usize) -> Result<Option<u32>, CheckError>
     ensures { checked_as result ≡ checking n low high list.now k }
 {
-    match test_ends(n, low, high) {
-        Tested::Bad(f) => Checked::Refused(f),
-        Tested::Good => check_good(n, low, high, list, k),
+    let interval = test_ends(n, low, high)?;
+    let (pairs, _) = list.as_chunks::<2>();
+    let words = pairs.get(..k).ok_or(CheckError::Stated)?;
+    if let Some(i) = first_ill(n, words) {
+        return Err(CheckError::Ill(i));
     }
+    Ok(first_difference(interval, words))
 }

@@ -1,8 +1,9 @@
 // The tests of an interval's width and ends, which every call on intervals makes first (document 01's 1, 2 and 3).
-ghost use Rattle.std.specs.Prelude.{◌≡◌};
-ghost use Rattle.intervals.specs.Ends.{tested};
+ghost use Rattle.intervals.specs.Ends.{Tests};
 
-#[derive(Clone, Copy)]
+use blocks::Interval;
+
+#[derive(Clone, Copy, Debug, PartialEq, Eq)]
 pub enum Fault {
     // 1: the width is not 1..16.
     Width,
@@ -12,30 +13,22 @@ pub enum Fault {
     Order,
 }
 
-#[derive(Clone, Copy)]
-pub enum Tested {
-    Good,
-    Bad(Fault),
-}
-
-pub fn test_ends(n: u32, low: u32, high: u32) -> Tested
-    ensures { result ≡ tested n low high }
+pub fn test_ends(n: u32, low: u32, high: u32) -> Result<Interval, Fault>
+    ensures { Tests n low high result }
 {
-    if n < 1 {
-        return Tested::Bad(Fault::Width);
-    }
-    if 16 < n {
-        return Tested::Bad(Fault::Width);
+    if n < 1 || 16 < n {
+        return Err(Fault::Width);
     }
     let size = bits::power(n);
-    if size <= low {
-        return Tested::Bad(Fault::Fit);
-    }
-    if size <= high {
-        return Tested::Bad(Fault::Fit);
+    if size <= low || size <= high {
+        return Err(Fault::Fit);
     }
     if high < low {
-        return Tested::Bad(Fault::Order);
+        return Err(Fault::Order);
     }
-    Tested::Good
+    Ok(Interval {
+        width: n,
+        low,
+        high,
+    })
 }

@@ -15,8 +15,9 @@ mod ends;
 mod lists;
 mod walks;
 
-pub use bounds::{Closed, close};
-pub use checks::{Checked, check};
+pub use blocks::Interval;
+pub use bounds::close;
+pub use checks::{CheckError, check};
 pub use ends::Fault;
-pub use lists::{Counted, Listed, count, list};
-pub use walks::{Gave, Step, Walk};
+pub use lists::{ListError, count, list};
+pub use walks::{Step, Walk};
