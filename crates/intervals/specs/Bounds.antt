@@ -4,16 +4,16 @@ use Rattle.std.specs.Int.Signed.{le_z, lt_z}
 use Rattle.answers.specs.Answers.{answer_of, done, refused}
 use Rattle.answers.specs.Refusals as refusal
 use Rattle.answers.specs.declared.Answer.{Answer}
-use Rattle.blocks.specs.declared.intervals.Interval.{Interval}
 use Rattle.intervals.specs.Ends.{fault_as}
+use Rattle.intervals.specs.declared.bounds.Closed.{Closed}
 use Rattle.intervals.specs.declared.ends.Fault.{Fault}
 
 -- document 01's number and values for each answer
-abbrev pub interval_as : Interval → Answer
-interval_as i = done i.low i.high 0 0
+abbrev pub ends_as : Closed → Answer
+ends_as c = done c.low c.high 0 0
 
-abbrev pub closed_as : Result Interval Fault → Answer
-closed_as = answer_of interval_as fault_as
+abbrev pub closed_as : Result Closed Fault → Answer
+closed_as = answer_of ends_as fault_as
 
 -- the bound lies in -1 .. 2 ^ n
 abbrev pub bound_fits? : ℕ → ℤ → Bool

@@ -4,7 +4,13 @@ ghost use Rattle.std.specs.Prelude.{◌≡◌, ◌≤◌};
 ghost use Rattle.intervals.specs.Bounds.{closed_as, closing, place};
 
 use crate::ends::Fault;
-use blocks::Interval;
+
+// The closed interval between two open bounds.
+#[derive(Clone, Copy, Debug, PartialEq, Eq)]
+pub struct Closed {
+    pub low: u32,
+    pub high: u32,
+}
 
 // How far a bound stands past -1, where it lies in -1..top.
 fn place_of(a: i32, top: u32) -> Option<u32>
@@ -24,7 +30,7 @@ fn place_of(a: i32, top: u32) -> Option<u32>
     Some(past)
 }
 
-pub fn close(n: u32, a: i32, b: i32) -> Result<Interval, Fault>
+pub fn close(n: u32, a: i32, b: i32) -> Result<Closed, Fault>
     ensures { closed_as result ≡ closing n a b }
 {
     if n < 1 || 16 < n {
@@ -39,8 +45,7 @@ pub fn close(n: u32, a: i32, b: i32) -> Result<Interval, Fault>
     if q - 2 < p {
         return Err(Fault::Order);
     }
-    Ok(Interval {
-        width: n,
+    Ok(Closed {
         low: p,
         high: q - 2,
     })

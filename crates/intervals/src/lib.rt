@@ -15,8 +15,7 @@ mod ends;
 mod lists;
 mod walks;
 
-pub use blocks::Interval;
-pub use bounds::close;
+pub use bounds::{Closed, close};
 pub use checks::{CheckError, check};
 pub use ends::Fault;
 pub use lists::{ListError, count, list};
