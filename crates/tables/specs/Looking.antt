@@ -1,23 +1,28 @@
 -- Finding a header in a table: what is answered on any bytes.
-use Rattle.std.specs.Prelude.{Bool, true, ◌&&◌, not, List, [], ◌∷◌, ℕ, zero, suc, ◌+◌, ◌*◌, ◌≤◌, eqb, leb, ltb, drop, length, if◌then◌else◌}
+use Rattle.std.specs.Prelude.{Bool, true, ◌&&◌, not, List, [], ◌∷◌, ℕ, zero, suc, ◌+◌, Option, None, Some, Result, eqb, leb, ltb, drop, length, if◌then◌else◌}
 use Rattle.std.specs.Int.Bits.{bit_and}
-use Rattle.answers.specs.Answers.{behind_ill, done, refused}
+use Rattle.answers.specs.Answers.{answer_of, behind_ill, done, refused}
 use Rattle.answers.specs.Refusals as refusal
 use Rattle.answers.specs.declared.Answer.{Answer}
-use Rattle.answers.specs.declared.Lowest.{Lowest}
-use Rattle.answers.specs.declared.Lowest.TheVariants.{None, At}
+use Rattle.records.specs.Actions.{action_number}
 use Rattle.records.specs.Entries.{action_of, mask_of_record, number_of, value_of}
-use Rattle.records.specs.Layout.{key_size, last_action, record_size, room_of, word_limit}
+use Rattle.records.specs.Layout.{key_size, last_action, record_size, room_of}
 use Rattle.tables.specs.declared.finding.Found.{Found}
-use Rattle.tables.specs.declared.finding.Found.TheVariants as found
+use Rattle.tables.specs.declared.finding.LookError.{LookError}
+use Rattle.tables.specs.declared.finding.LookError.TheVariants.{Stated, Ill, Header}
 
 -- document 01's number and values for each answer
-abbrev pub found_as : Found → Answer
-found_as (found.Record j i a) = done 1 j i a
-found_as found.Nothing = done 0 0 0 0
-found_as found.Stated = refused refusal.stated 0 0
-found_as (found.Ill j) = refused refusal.ill j 0
-found_as found.Header = refused refusal.header 0 0
+abbrev pub record_found : Option Found → Answer
+record_found None = done 0 0 0 0
+record_found (Some f) = done 1 f.index f.rule (action_number f.action)
+
+abbrev pub look_error_as : LookError → Answer
+look_error_as Stated = refused refusal.stated 0 0
+look_error_as (Ill j) = refused refusal.ill j 0
+look_error_as Header = refused refusal.header 0 0
+
+abbrev pub found_as : Result (Option Found) LookError → Answer
+found_as = answer_of record_found look_error_as
 
 -- a well-formed word matches a header, byte by byte: under the mask the header is the value
 unfoldable pub bytes_match : List ℕ → List ℕ → List ℕ → Bool
@@ -36,9 +41,9 @@ abbrev pub record_formed? : List ℕ → Bool
 record_formed? t = record_matches? t (value_of t) && leb (action_of t) last_action
 
 -- the lowest index of an ill-formed record among the k from the start of t on, the first having index j
-unfoldable pub first_ill : ℕ → ℕ → List ℕ → Lowest
+unfoldable pub first_ill : ℕ → ℕ → List ℕ → Option ℕ
 first_ill zero j t = None
-first_ill (suc k) j t = if record_formed? t then first_ill k (j + 1) (drop record_size t) else At j
+first_ill (suc k) j t = if record_formed? t then first_ill k (j + 1) (drop record_size t) else Some j
 
 -- the first of those k records that matches: 1, its index, its rule number and its action; or 0 and zeros
 unfoldable pub first_record : ℕ → ℕ → List ℕ → List ℕ → Answer
@@ -56,8 +61,3 @@ unfoldable pub looking : List ℕ → ℕ → List ℕ → Answer
 looking t k h =
     if ltb (room_of (length t)) k then refused refusal.stated 0 0
     else behind_ill (first_ill k 0 t) (looking_formed t k h)
-
--- k records stand in the table, and they are no more than a table may have
-pub record Fit (k : ℕ) (t : List ℕ) : Type 0 where
-  pub stand : record_size * k ≤ length t
-  pub few : k ≤ word_limit

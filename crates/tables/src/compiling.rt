@@ -4,54 +4,46 @@ ghost use Rattle.entries.specs.Words.{entries_of, needed};
 ghost use Rattle.fields.specs.Writes.{write_at};
 ghost use Rattle.records.specs.Entries.{table_bytes};
 ghost use Rattle.records.specs.Layout.{record_size, room_of};
-ghost use Rattle.records.specs.Rules.{all_rules};
-ghost use Rattle.rules.specs.Faults.{tested_rules};
-ghost use Rattle.rules.specs.declared.faults.ListTest.TheVariants as test;
-ghost use Rattle.tables.specs.Compiling.{Compiling, compiled_as};
+ghost use Rattle.rules.specs.Lists.{rules_in};
+ghost use Rattle.tables.specs.Compiling.{Compiling, compile_fault, compiled_as};
 
-use records::{RECORD_SIZE, RULE_SIZE, WORD_LIMIT};
-use rules::{ListFault, ListTest};
+use records::{RECORD_SIZE, Rule, WORD_LIMIT};
+use rules::{ListFault, RuleList};
 
-#[derive(Clone, Copy)]
-pub enum Compiled {
-    Words(u32),
-    Refused(ListFault),
+#[derive(Clone, Copy, Debug, PartialEq, Eq)]
+pub enum CompileError {
+    Rules(ListFault),
     // 8: so many words are needed, more than the table has room for.
     Space(u32),
 }
 
-// How many words a well-formed list needs.
-fn total(rules: &[u8]) -> u32
-    requires { tested_rules rules.now ≡ test.Good }
-    ensures { result ≡ needed (all_rules rules.now) }
-{
-    let n = rules.len() / RULE_SIZE;
-    let mut i: usize = 0;
-    let mut from: usize = 0;
-    let mut k: u32 = 0;
-    while i < n {
-        k += entries::words(records::read_rule(&rules[from..]));
-        from += RULE_SIZE;
-        i += 1;
+impl From<ListFault> for CompileError {
+    ghost from_gives = { λ fault error. error ≡ compile_fault fault };
+
+    fn from(fault: ListFault) -> CompileError {
+        CompileError::Rules(fault)
     }
-    k
 }
 
-// Writes the records of all rules of a well-formed list, each rule's on from the first free record.
-fn fill(rules: &[u8], table: &mut [u8])
-    requires good { tested_rules rules.now ≡ test.Good }
-    requires room { record_size * needed (all_rules rules.now) ≤ length table.old }
-    ensures { table.new ≡ write_at table.old 0 (table_bytes (entries_of 0 (all_rules rules.now))) }
+// How many words a list needs.
+fn total(list: RuleList<'_>) -> u32
+    ensures { result ≡ needed (rules_in list.entry.records.now) }
 {
-    let n = rules.len() / RULE_SIZE;
-    let mut i: usize = 0;
-    let mut from: usize = 0;
-    let mut at: usize = 0;
-    while i < n {
-        let r = records::read_rule(&rules[from..]);
-        at += entries::put_rule(&mut table[at..], r, i as u8);
-        from += RULE_SIZE;
-        i += 1;
+    let mut words = 0;
+    for record in list.records {
+        words += entries::words(Rule::from_bytes(record));
+    }
+    words
+}
+
+// Writes the records of all rules, each rule's on from the first free record.
+fn fill(list: RuleList<'_>, table: &mut [u8])
+    requires { record_size * needed (rules_in list.records.now) ≤ length table.old }
+    ensures { table.new ≡ write_at table.old 0 (table_bytes (entries_of 0 (rules_in list.entry.records.now))) }
+{
+    let mut at = 0;
+    for (i, record) in list.records.iter().enumerate() {
+        at += entries::put_rule(&mut table[at..], Rule::from_bytes(record), i as u8);
     }
 }
 
@@ -59,31 +51,18 @@ fn fill(rules: &[u8], table: &mut [u8])
 pub fn room(bytes: usize) -> usize
     ensures { result ≡ room_of bytes }
 {
-    let k = bytes / RECORD_SIZE;
-    if k < WORD_LIMIT {
-        return k;
-    }
-    WORD_LIMIT
+    (bytes / RECORD_SIZE).min(WORD_LIMIT)
 }
 
-// Compiles a well-formed list, where there is room.
-fn compile_good(rules: &[u8], table: &mut [u8]) -> Compiled
-    requires { tested_rules rules.now ≡ test.Good }
+// Compiles where there is room, and answers how many words the table has.
+pub fn compile(rules: &[u8], table: &mut [u8]) -> Result<u32, CompileError>
     ensures { Compiling rules.now table.old (compiled_as result) table.new }
 {
-    let k = total(rules);
-    if room(table.len()) < k as usize {
-        return Compiled::Space(k);
+    let list = rules::test_rules(rules)?;
+    let words = total(list);
+    if room(table.len()) < words as usize {
+        return Err(CompileError::Space(words));
     }
-    fill(rules, table);
-    Compiled::Words(k)
-}
-
-pub fn compile(rules: &[u8], table: &mut [u8]) -> Compiled
-    ensures { Compiling rules.now table.old (compiled_as result) table.new }
-{
-    match rules::test_rules(rules) {
-        ListTest::Refused(f) => Compiled::Refused(f),
-        ListTest::Good => compile_good(rules, table),
-    }
+    fill(list, table);
+    Ok(words)
 }

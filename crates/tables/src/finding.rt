@@ -1,18 +1,23 @@
 // Which record of a table a header finds: the earliest that matches, whatever the length of its prefixes.
 ghost use Rattle.std.specs.Prelude.{◌&&◌, ◌≡◌, ◌≤◌, eqb, length};
 ghost use Rattle.std.specs.Int.Bits.{bit_and};
-ghost use Rattle.records.specs.Layout.{key_size, record_size};
-ghost use Rattle.tables.specs.Looking.{Fit, first_ill, first_record, found_as, looking, looking_formed, record_formed?, record_matches?};
+ghost use Rattle.records.specs.Layout.{word_limit};
+ghost use Rattle.tables.specs.Looking.{found_as, looking, record_formed?, record_found, record_matches?};
+ghost use Rattle.tables.specs.Records.{EachFormed, first_among, first_ill_among};
 
 use crate::compiling::room;
-use answers::Lowest;
-use records::{ACTION_AT, KEY_SIZE, LAST_ACTION, MASK_AT, NUMBER_AT, RECORD_SIZE};
+use records::{ACTION_AT, Action, KEY_SIZE, MASK_AT, NUMBER_AT, RECORD_SIZE};
 
-#[derive(Clone, Copy)]
-pub enum Found {
-    // The first matching record's index, its rule number and its action.
-    Record { index: u32, rule: u32, action: u8 },
-    Nothing,
+// A record's index, the number of the rule that it belongs to, and that rule's action.
+#[derive(Clone, Copy, Debug, PartialEq, Eq)]
+pub struct Found {
+    pub index: u32,
+    pub rule: u32,
+    pub action: Action,
+}
+
+#[derive(Clone, Copy, Debug, PartialEq, Eq)]
+pub enum LookError {
     // 9: the stated count of words exceeds the table's room.
     Stated,
     // 10: the lowest index of an ill-formed record.
@@ -29,97 +34,66 @@ fn differing(d: u8, x: u8, mask: u8, value: u8) -> u8
     d | ((x & mask) ^ value)
 }
 
-// The record at the start of t matches the header.
-fn matches_record(t: &[u8], h: &[u8]) -> bool
-    requires held { record_size ≤ length t.now }
-    requires header { length h.now ≡ key_size }
-    ensures { result ≡ record_matches? t.now h.now }
+fn matches_record(record: &[u8; RECORD_SIZE], header: &[u8; KEY_SIZE]) -> bool
+    ensures { result ≡ record_matches? record.now header.now }
 {
-    let mut d: u8 = 0;
-    let mut j: usize = 0;
-    while j < KEY_SIZE {
-        d = differing(d, h[j], t[MASK_AT + j], t[j]);
-        j += 1;
+    let mut d = 0;
+    for j in 0..KEY_SIZE {
+        d = differing(d, header[j], record[MASK_AT + j], record[j]);
     }
     d == 0
 }
 
-// The record at the start of t is well formed: it matches its own value, and its action is known.
-fn formed_record(t: &[u8]) -> bool
-    requires { record_size ≤ length t.now }
-    ensures { result ≡ record_formed? t.now }
+// A record is well formed: it matches its own value, and its action is known.
+fn formed_record(record: &[u8; RECORD_SIZE]) -> bool
+    ensures { result ≡ record_formed? record.now }
 {
-    if matches_record(t, &t[..KEY_SIZE]) {
-        return t[ACTION_AT] <= LAST_ACTION;
-    }
-    false
+    let value = record.first_chunk::<KEY_SIZE>().unwrap();
+    matches_record(record, value) && Action::try_from(record[ACTION_AT]).is_ok()
 }
 
-// The lowest index of an ill-formed record among the first k.
-fn first_ill(table: &[u8], k: usize) -> Lowest
-    requires { Fit k table.now }
-    ensures { result ≡ first_ill k 0 table.now }
+// The lowest index of an ill-formed record.
+fn first_ill(records: &[[u8; RECORD_SIZE]]) -> Option<usize>
+    ensures { result ≡ first_ill_among 0 records.now }
 {
-    let mut i: usize = 0;
-    let mut at: usize = 0;
-    while i < k {
-        if formed_record(&table[at..]) {
-            at += RECORD_SIZE;
-            i += 1;
-        } else {
-            return Lowest::At(i);
+    for (i, record) in records.iter().enumerate() {
+        if !formed_record(record) {
+            return Some(i);
         }
     }
-    Lowest::None
+    None
 }
 
-fn wide(x: u8) -> u32
-    ensures { result ≡ x }
+// The first record that matches.
+fn first_record(records: &[[u8; RECORD_SIZE]], header: &[u8; KEY_SIZE]) -> Option<Found>
+    requires formed { EachFormed records.now }
+    requires few { length records.now ≤ word_limit }
+    ensures { record_found result ≡ first_among 0 records.now header.now }
 {
-    x as u32
-}
-
-// The first of the k records that matches.
-fn first_record(table: &[u8], k: usize, h: &[u8]) -> Found
-    requires fit { Fit k table.now }
-    requires header { length h.now ≡ key_size }
-    ensures { found_as result ≡ first_record k 0 table.now h.now }
-{
-    let mut i: usize = 0;
-    let mut at: usize = 0;
-    while i < k {
-        if matches_record(&table[at..], h) {
-            return Found::Record {
+    for (i, record) in records.iter().enumerate() {
+        if matches_record(record, header) {
+            return Some(Found {
                 index: i as u32,
-                rule: wide(table[at + NUMBER_AT]),
-                action: table[at + ACTION_AT],
-            };
+                rule: u32::from(record[NUMBER_AT]),
+                action: Action::try_from(record[ACTION_AT]).unwrap(),
+            });
         }
-        at += RECORD_SIZE;
-        i += 1;
     }
-    Found::Nothing
+    None
 }
 
-// The answer where all counted records are well formed.
-fn find_formed(table: &[u8], k: usize, header: &[u8]) -> Found
-    requires { Fit k table.now }
-    ensures { found_as result ≡ looking_formed table.now k header.now }
-{
-    if header.len() != KEY_SIZE {
-        return Found::Header;
-    }
-    first_record(table, k, header)
-}
-
-pub fn find_word(table: &[u8], k: usize, header: &[u8]) -> Found
+// The first of the first k records that matches, or nothing where none does.
+pub fn find_word(table: &[u8], k: usize, header: &[u8]) -> Result<Option<Found>, LookError>
     ensures { found_as result ≡ looking table.now k header.now }
 {
     if room(table.len()) < k {
-        return Found::Stated;
+        return Err(LookError::Stated);
     }
-    match first_ill(table, k) {
-        Lowest::At(i) => Found::Ill(i as u32),
-        Lowest::None => find_formed(table, k, header),
+    let (all, _) = table.as_chunks::<RECORD_SIZE>();
+    let records = &all[..k];
+    if let Some(i) = first_ill(records) {
+        return Err(LookError::Ill(i as u32));
     }
+    let bytes = header.as_array::<KEY_SIZE>().ok_or(LookError::Header)?;
+    Ok(first_record(records, bytes))
 }

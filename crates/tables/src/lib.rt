@@ -10,5 +10,5 @@
 mod compiling;
 mod finding;
 
-pub use compiling::{Compiled, compile};
-pub use finding::{Found, find_word};
+pub use compiling::{CompileError, compile};
+pub use finding::{Found, LookError, find_word};
