@@ -12,7 +12,7 @@ use Rattle.sheets.specs.Cuts.{after, before, times}
 use Rattle.sheets.specs.Numbers.{number_of}
 use Rattle.sheets.specs.Parts.{address_of, bad_address, bits_of, dot, joined, slash}
 use Rattle.sheets.specs.Text.{AddressSaid, address_text}
-use Rattle.sheets.specs.declared.parts.Address.{Address}
+use Rattle.sheets.specs.Parts.{Address}
 use Rattle.texts.specs.Decimal.{decimal}
 use Rattle.sheets.proofs.Decimals.{decimal_number, decimal_without, number_decimal}
 use Rattle.sheets.proofs.FieldText.{both, number_parted, some_number}

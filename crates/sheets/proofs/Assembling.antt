@@ -9,8 +9,8 @@ use Rattle.sheets.specs.Numbers.{number_of}
 use Rattle.sheets.specs.Parts.{action_of, address_of, dash, dot, joined, paired, ports_of, protocol_of, slash}
 use Rattle.sheets.specs.Rows.{row_from, row_of}
 use Rattle.sheets.specs.declared.cuts.Places.{Places}
-use Rattle.sheets.specs.declared.parts.Address.{Address}
-use Rattle.sheets.specs.declared.parts.Ports.{Ports}
+use Rattle.sheets.specs.Parts.{Address}
+use Rattle.sheets.specs.Parts.{Ports}
 use Rattle.sheets.specs.declared.rows.Row.{Row}
 use Rattle.sheets.specs.declared.rows.Row.TheVariants.{Bad}
 use Rattle.sheets.proofs.Cutting.{cut_front}

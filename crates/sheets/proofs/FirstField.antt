@@ -6,8 +6,8 @@ use Prim.Native.Nat.{ℕ}
 use Rattle.rules.specs.Lowest.{FirstTest}
 use Rattle.sheets.specs.BadLines.{bad_fields, bad_parts}
 use Rattle.sheets.specs.Rows.{row_from, row_of}
-use Rattle.sheets.specs.declared.parts.Address.{Address}
-use Rattle.sheets.specs.declared.parts.Ports.{Ports}
+use Rattle.sheets.specs.Parts.{Address}
+use Rattle.sheets.specs.Parts.{Ports}
 use Rattle.sheets.specs.declared.rows.Row.TheVariants.{Bad}
 use Rattle.sheets.proofs.TestsInOrder.{tested, tested_bad}
 

@@ -5,8 +5,8 @@ use Prim.Native.Nat.{ℕ, ◌≤◌, ◌<◌}
 use borrow.Author.Tests.{lt-ltb, le-ltb}
 use Rattle.sheets.specs.Parts.{any}
 use Rattle.sheets.specs.Rows.{row_from, rule_of}
-use Rattle.sheets.specs.declared.parts.Address.{Address}
-use Rattle.sheets.specs.declared.parts.Ports.{Ports}
+use Rattle.sheets.specs.Parts.{Address}
+use Rattle.sheets.specs.Parts.{Ports}
 use Rattle.sheets.specs.declared.rows.Row.TheVariants.{Good, Bad}
 
 module _ (p : ℕ) (src dst : Address) (sports dports : Ports) (act : ℕ) where

@@ -18,8 +18,8 @@ use Rattle.sheets.specs.Cuts.{after, before, times}
 use Rattle.sheets.specs.Parts.{action_of, address_of, any, ports_of, protocol_of}
 use Rattle.sheets.specs.Rows.{of_fields, row_from, row_of, rule_of}
 use Rattle.sheets.specs.Text.{AddressSaid, GoodRule, PortsSaid, address_text, ports_text, protocol_text, rule_text}
-use Rattle.sheets.specs.declared.parts.Address.{Address}
-use Rattle.sheets.specs.declared.parts.Ports.{Ports}
+use Rattle.sheets.specs.Parts.{Address}
+use Rattle.sheets.specs.Parts.{Ports}
 use Rattle.sheets.specs.declared.rows.Row.TheVariants.{Good, Bad}
 use Rattle.texts.specs.Lines.{action_text, line_feed, tab}
 use Rattle.sheets.proofs.AddressText.{address_said, address_text_lem, address_without}

@@ -1,15 +1,12 @@
 -- A bad line of a sheet: which one it is, what is wrong with it, and which of its fields are bad.
-use Rattle.std.specs.Prelude.{Bool, true, false, not, List, [], ◌∷◌, ◌++◌, ◌⊎◌, ◌≡◌, ℕ, ◌+◌, ◌<◌, eqb, ltb, length}
+use Rattle.std.specs.Prelude.{Bool, true, false, not, List, [], ◌∷◌, ◌++◌, ◌⊎◌, ◌≡◌, ℕ, ◌+◌, ◌<◌, Err, eqb, ltb, length}
 use Rattle.records.specs.Layout.{last_action}
 use Rattle.records.specs.declared.Rule.{Rule}
 use Rattle.sheets.specs.Cuts.{before, times}
-use Rattle.sheets.specs.Parts.{any}
+use Rattle.sheets.specs.Parts.{Address, Ports, any}
 use Rattle.sheets.specs.Reading.{ended?}
 use Rattle.sheets.specs.Rows.{of_fields, row_of}
 use Rattle.sheets.specs.Text.{AllGood, sheet_text}
-use Rattle.sheets.specs.declared.parts.Address.{Address}
-use Rattle.sheets.specs.declared.parts.Ports.{Ports}
-use Rattle.sheets.specs.declared.rows.Row.TheVariants.{Bad}
 use Rattle.texts.specs.Lines.{line_feed, tab}
 
 -- ---- the line
@@ -23,7 +20,7 @@ pub record Unended (rest : List ℕ) (field : ℕ) : Type 0 where
 -- the first line of the rest has a bad field, or another number of fields
 pub record Wrong (rest : List ℕ) (field : ℕ) : Type 0 where
   pub ended : ended? rest ≡ true
-  pub says : row_of (before line_feed rest) ≡ Bad field
+  pub says : row_of (before line_feed rest) ≡ Err field
 
 -- the text of the good rules rs comes first in s, and the line after it, of this number, is bad at this field
 pub record FirstBadLine (s : List ℕ) (rs : List Rule) (line field : ℕ) : Type 0 where

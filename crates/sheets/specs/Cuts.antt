@@ -1,6 +1,5 @@
 -- Text in parts: what stands before and after a mark.
-use Rattle.std.specs.Prelude.{List, [], ◌∷◌, ◌≡◌, ℕ, suc, ◌+◌, eqb, length, if◌then◌else◌}
-use Rattle.sheets.specs.declared.cuts.Places.{Places}
+use Rattle.std.specs.Prelude.{Bor, List, [], ◌∷◌, ◌++◌, ◌≡◌, ℕ, suc, MatchOption, Option, eqb, if◌then◌else◌}
 
 -- the bytes before the first c, or all of them where there is none
 unfoldable pub before : ℕ → List ℕ → List ℕ
@@ -23,7 +22,10 @@ times c (x ∷ s) =
     let rest = times c s in
     if eqb x c then suc rest else rest
 
--- the places where the first part ends and the second begins
-pub record Cuts (c : ℕ) (s : List ℕ) (r : Places) : Type 0 where
-  pub end : r.end ≡ length (before c s)
-  pub next : r.next + length (after c s) ≡ length s
+-- two parts of s: those before and after its first c
+abbrev pub Halves : ℕ → List ℕ → Bor (List ℕ) × Bor (List ℕ) → Type 0
+Halves c s parts = (parts.0.now ≡ before c s) × (parts.1.now ≡ after c s)
+
+-- the parts of s where it has a c; where it has none, all of s stands before it
+abbrev pub Cut : ℕ → List ℕ → Option (Bor (List ℕ) × Bor (List ℕ)) → Type 0
+Cut c s r = MatchOption r (before c s ≡ s) (λ parts. Halves c s parts × (s ≡ before c s ++ (c ∷ after c s)))

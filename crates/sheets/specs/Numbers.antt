@@ -1,9 +1,13 @@
 -- A decimal number of a field: digits only, no leading zero, at most 65535.
-use Rattle.std.specs.Prelude.{Bool, ◌&&◌, not, List, [], ◌∷◌, ℕ, ◌+◌, ◌-◌, ◌*◌, eqb, leb, ltb, length, if◌then◌else◌}
+use Rattle.std.specs.Prelude.{Bool, ◌&&◌, not, List, [], ◌∷◌, ℕ, ◌+◌, ◌-◌, ◌*◌, Option, None, Some, eqb, leb, ltb, length, if◌then◌else◌}
 
--- what is answered where there is no number
+-- what stands for no number: one above all numbers
 abbrev pub none : ℕ
 none = 65536
+
+abbrev pub number_or_none : Option ℕ → ℕ
+number_or_none None = none
+number_or_none (Some x) = x
 
 abbrev pub digit? : ℕ → Bool
 digit? c = leb 48 c && leb c 57

@@ -1,13 +1,17 @@
 -- The six fields of a line: protocol, two addresses, two port intervals, action. Document 01's tests of a rule are part of
 -- what makes a field good.
-use Rattle.std.specs.Prelude.{true, false, ◌&&◌, not, List, [], ◌∷◌, ℕ, ◌+◌, ◌*◌, leb, if◌then◌else◌}
+use Rattle.std.specs.Prelude.{Bool, true, false, ◌&&◌, not, List, [], ◌∷◌, ℕ, ◌+◌, ◌*◌, Option, None, Some, get_or, leb, if◌then◌else◌}
 use Rattle.fields.specs.Same.{same?}
+use Rattle.records.specs.Actions.{action_number}
 use Rattle.records.specs.Layout.{last_action}
-use Rattle.rules.specs.Faults.{beyond?}
+use Rattle.records.specs.Prefixes.{beyond?}
+use Rattle.records.specs.declared.actions.Action.{Action}
+use Rattle.records.specs.declared.prefixes.Prefix.{Prefix}
 use Rattle.sheets.specs.Cuts.{after, before}
-use Rattle.sheets.specs.Numbers.{none, number_of}
-use Rattle.sheets.specs.declared.parts.Address.{Address}
-use Rattle.sheets.specs.declared.parts.Ports.{Ports}
+use Rattle.sheets.specs.Numbers.{none, number_of, number_or_none}
+use Rattle.sheets.specs.declared.parts.Ports as ports
+use Rattle.sheets.specs.declared.parts.Protocol.{Protocol}
+use Rattle.sheets.specs.declared.parts.Protocol.TheVariants.{Any, Exact}
 use Rattle.texts.specs.Lines.{deny, deny_log, permit, permit_log}
 
 abbrev pub dot : ℕ
@@ -33,6 +37,18 @@ protocol_of s =
     if same? s star then any
     else if leb (number_of s) 255 then number_of s
     else none
+
+-- an address of which the first len bits count, or that there is none
+pub record Address : Type 0 where
+  pub good : Bool
+  pub bits : ℕ
+  pub len : ℕ
+
+-- an interval of ports, or that there is none
+pub record Ports : Type 0 where
+  pub good : Bool
+  pub low : ℕ
+  pub high : ℕ
 
 -- what is answered where there is no address, and below where there is no interval
 abbrev pub bad_address : Address
@@ -83,3 +99,30 @@ action_of s =
     else if same? s permit_log then 2
     else if same? s deny_log then 3
     else no_action
+
+-- ---- as the code answers
+
+abbrev pub protocol_as : Option Protocol → ℕ
+protocol_as None = none
+protocol_as (Some Any) = any
+protocol_as (Some (Exact x)) = x
+
+-- a number of one byte, or none
+unfoldable pub octet_of : ℕ → ℕ
+octet_of x = if leb x 255 then x else none
+
+abbrev pub address_as : Option Prefix → Address
+address_as None = bad_address
+address_as (Some p) = record { good = true; bits = p.address; len = p.len }
+
+-- the address of a list of four numbers
+abbrev pub joined_of : List ℕ → ℕ → Address
+joined_of octets len = joined (get_or octets 0 0) (get_or octets 1 0) (get_or octets 2 0) (get_or octets 3 0) len
+
+abbrev pub ports_as : Option ports.Ports → Ports
+ports_as None = bad_ports
+ports_as (Some p) = record { good = true; low = p.low; high = p.high }
+
+abbrev pub action_as : Option Action → ℕ
+action_as None = no_action
+action_as (Some a) = action_number a

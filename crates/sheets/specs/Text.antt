@@ -1,13 +1,12 @@
 -- The text of a rule and of a rule list, and what it is for a text to say one.
 use Rattle.std.specs.Prelude.{false, List, [], ◌∷◌, ◌++◌, ◌≡◌, ℕ, ◌/◌, ◌%◌, ◌^◌, ◌≤◌, ◌<◌, eqb, length, if◌then◌else◌}
 use Rattle.records.specs.Layout.{rule_limit}
+use Rattle.records.specs.Prefixes.{beyond?}
 use Rattle.records.specs.Rules.{RuleFits}
 use Rattle.records.specs.declared.Rule.{Rule}
-use Rattle.rules.specs.Faults.{bad_field, beyond?}
-use Rattle.sheets.specs.Parts.{dash, dot, slash, star}
+use Rattle.rules.specs.Faults.{bad_field}
+use Rattle.sheets.specs.Parts.{Address, Ports, dash, dot, slash, star}
 use Rattle.sheets.specs.Reading.{sheet_limit}
-use Rattle.sheets.specs.declared.parts.Address.{Address}
-use Rattle.sheets.specs.declared.parts.Ports.{Ports}
 use Rattle.texts.specs.Decimal.{decimal}
 use Rattle.texts.specs.Lines.{action_text, line_feed, tab}
 

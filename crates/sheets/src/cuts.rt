@@ -1,59 +1,25 @@
-// Text in parts: where a mark stands, and how often.
+// Text in parts: what stands before and after a mark, and how often it stands there.
 ghost use Rattle.std.specs.Prelude.{◌≡◌};
-ghost use Rattle.fields.specs.Same.{same?};
-ghost use Rattle.sheets.specs.Cuts.{Cuts, times};
+ghost use Rattle.sheets.specs.Cuts.{Cut, Halves, times};
 
-// Where the part before a mark ends, and where the part after it begins.
-#[derive(Clone, Copy)]
-pub struct Places {
-    pub end: usize,
-    pub next: usize,
+// What stands before and after the first c of s, where there is one.
+pub fn cut(s: &[u8], c: u8) -> Option<(&[u8], &[u8])>
+    ensures { Cut c s.now result }
+{
+    let i = s.iter().position(|x| *x == c)?;
+    Some((&s[..i], &s[i + 1..]))
 }
 
-// Cuts s at its first c; without one, all of s stands before it and nothing after.
-pub fn cut(s: &[u8], c: u8) -> Places
-    ensures { Cuts c s.now result }
+// The same; without a c, all of s stands before it and nothing after.
+pub fn halves(s: &[u8], c: u8) -> (&[u8], &[u8])
+    ensures { Halves c s.now result }
 {
-    let mut i: usize = 0;
-    while i < s.len() {
-        if s[i] == c {
-            return Places {
-                end: i,
-                next: i + 1,
-            };
-        }
-        i += 1;
-    }
-    Places { end: i, next: i }
+    cut(s, c).unwrap_or((s, &[]))
 }
 
 // How often c stands in s.
 pub fn count(s: &[u8], c: u8) -> usize
     ensures { result ≡ times c s.now }
 {
-    let mut i: usize = 0;
-    let mut k: usize = 0;
-    while i < s.len() {
-        if s[i] == c {
-            k += 1;
-        }
-        i += 1;
-    }
-    k
-}
-
-pub fn same(s: &[u8], t: &[u8]) -> bool
-    ensures { result ≡ same? s.now t.now }
-{
-    if s.len() != t.len() {
-        return false;
-    }
-    let mut i: usize = 0;
-    while i < s.len() {
-        if s[i] != t[i] {
-            return false;
-        }
-        i += 1;
-    }
-    true
+    s.iter().filter(|x| **x == c).count()
 }

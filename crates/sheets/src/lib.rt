@@ -7,4 +7,5 @@ mod parts;
 mod reading;
 mod rows;
 
-pub use reading::{SHEET_LIMIT, Sheet, read};
+pub use reading::{SHEET_LIMIT, SheetError, read};
+pub use rows::Part;

@@ -1,44 +1,33 @@
 // Decimal numbers of at most 16 bits.
 ghost use Rattle.std.specs.Prelude.{◌≡◌};
-ghost use Rattle.sheets.specs.Numbers.{number_after, number_of};
+ghost use Rattle.sheets.specs.Numbers.{number_after, number_of, number_or_none};
 
-// What is answered where there is no number.
-pub const NONE: u32 = 65536;
-
-// The number that digits say.
-fn digits(s: &[u8]) -> u32
-    ensures { result ≡ number_after 0 s.now }
+// The number that digits say, where it is at most 65535.
+fn digits(s: &[u8]) -> Option<u16>
+    ensures { number_or_none result ≡ number_after 0 s.now }
 {
     let mut x: u32 = 0;
-    let mut i: usize = 0;
-    while i < s.len() {
-        if s[i] < 48 {
-            return NONE;
+    for c in s {
+        if !c.is_ascii_digit() {
+            return None;
         }
-        if 57 < s[i] {
-            return NONE;
+        x = x * 10 + u32::from(*c - b'0');
+        if 65535 < x {
+            return None;
         }
-        x = x * 10 + (s[i] - 48) as u32;
-        if NONE <= x {
-            return NONE;
-        }
-        i += 1;
     }
-    x
+    Some(x as u16)
 }
 
-// The number that s says, or NONE: digits with no leading zero, at most 65535.
-#[tactic(auto, using(crate::proofs::DigitsSoFar::number_tests))]
-pub fn number(s: &[u8]) -> u32
-    ensures { result ≡ number_of s.now }
+// The number that s says: digits with no leading zero, at most 65535.
+pub fn number(s: &[u8]) -> Option<u16>
+    ensures { number_or_none result ≡ number_of s.now }
 {
-    if s.len() == 0 {
-        return NONE;
+    if s.is_empty() {
+        return None;
     }
-    if s[0] == 48 {
-        if s.len() != 1 {
-            return NONE;
-        }
+    if s[0] == b'0' && s.len() != 1 {
+        return None;
     }
     digits(s)
 }

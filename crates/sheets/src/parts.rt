@@ -1,159 +1,94 @@
 // The fields of a line.
 ghost use Rattle.std.specs.Prelude.{◌≡◌};
+ghost use Rattle.sheets.specs.Numbers.{number_of, number_or_none};
 ghost use Rattle.sheets.specs.Parts as spec;
 
-use crate::cuts::{cut, same};
-use crate::numbers::{NONE, number};
-use records::LAST_ACTION;
+use crate::cuts::halves;
+use crate::numbers::number;
+use records::{Action, Prefix};
 
-// Any protocol, as a number above all protocols.
-pub const ANY: u32 = 256;
-
-// What is answered where there is no action.
-const NO_ACTION: u8 = LAST_ACTION + 1;
-
-const DOT: u8 = 46;
-
-const SLASH: u8 = 47;
-
-const DASH: u8 = 45;
-
-#[derive(Clone, Copy)]
-pub struct Address {
-    pub good: bool,
-    pub bits: u32,
-    pub len: u8,
+#[derive(Clone, Copy, Debug, PartialEq, Eq)]
+pub enum Protocol {
+    Any,
+    Exact(u8),
 }
 
-#[derive(Clone, Copy)]
+// An interval of ports, whose ends are in order.
+#[derive(Clone, Copy, Debug, PartialEq, Eq)]
 pub struct Ports {
-    pub good: bool,
     pub low: u16,
     pub high: u16,
 }
 
-pub fn read_protocol(s: &[u8]) -> u32
-    ensures { result ≡ spec.protocol_of s.now }
+// A number of one byte.
+fn octet(s: &[u8]) -> Option<u8>
+    ensures { number_or_none result ≡ spec.octet_of (number_of s.now) }
 {
-    if same(s, b"*") {
-        return ANY;
+    let x = number(s)?;
+    if 255 < x {
+        return None;
     }
-    let x = number(s);
-    if x <= 255 {
-        return x;
-    }
-    NONE
+    Some(x as u8)
 }
 
-fn bad_address() -> Address
-    ensures { result ≡ spec.bad_address }
+pub fn read_protocol(s: &[u8]) -> Option<Protocol>
+    ensures { spec.protocol_as result ≡ spec.protocol_of s.now }
 {
-    Address {
-        good: false,
-        bits: 0,
-        len: 0,
+    if s == b"*" {
+        return Some(Protocol::Any);
     }
+    Some(Protocol::Exact(octet(s)?))
 }
 
-// The address of four numbers and its length, where they are in range and no bit is set beyond the length.
-fn join(a: u32, b: u32, c: u32, d: u32, len: u32) -> Address
-    ensures { result ≡ spec.joined a b c d len }
+// The address of four octets and its length, where the length is in range and no bit is set beyond it.
+fn joined(octets: [u8; 4], len: u16) -> Option<Prefix>
+    ensures { spec.address_as result ≡ spec.joined_of octets.entry len }
 {
-    if 255 < a {
-        return bad_address();
-    }
-    if 255 < b {
-        return bad_address();
-    }
-    if 255 < c {
-        return bad_address();
-    }
-    if 255 < d {
-        return bad_address();
-    }
     if 32 < len {
-        return bad_address();
+        return None;
     }
-    let bits = ((a * 256 + b) * 256 + c) * 256 + d;
-    if (bits as u64) % (1u64 << (32 - len)) != 0 {
-        return bad_address();
-    }
-    Address {
-        good: true,
-        bits,
+    let prefix = Prefix {
+        address: u32::from_be_bytes(octets),
         len: len as u8,
+    };
+    if prefix.beyond() {
+        return None;
     }
+    Some(prefix)
 }
 
-pub fn read_address(s: &[u8]) -> Address
-    ensures { result ≡ spec.address_of s.now }
+pub fn read_address(s: &[u8]) -> Option<Prefix>
+    ensures { spec.address_as result ≡ spec.address_of s.now }
 {
-    let c1 = cut(s, DOT);
-    let e1 = c1.end;
-    let n1 = c1.next;
-    let s2 = &s[n1..];
-    let c2 = cut(s2, DOT);
-    let e2 = c2.end;
-    let n2 = c2.next;
-    let s3 = &s2[n2..];
-    let c3 = cut(s3, DOT);
-    let e3 = c3.end;
-    let n3 = c3.next;
-    let s4 = &s3[n3..];
-    let c4 = cut(s4, SLASH);
-    let e4 = c4.end;
-    let n4 = c4.next;
-    join(
-        number(&s[..e1]),
-        number(&s2[..e2]),
-        number(&s3[..e3]),
-        number(&s4[..e4]),
-        number(&s4[n4..]),
-    )
+    let (a, rest) = halves(s, b'.');
+    let (b, rest) = halves(rest, b'.');
+    let (c, rest) = halves(rest, b'.');
+    let (d, len) = halves(rest, b'/');
+    joined([octet(a)?, octet(b)?, octet(c)?, octet(d)?], number(len)?)
 }
 
-fn pair(low: u32, high: u32) -> Ports
-    ensures { result ≡ spec.paired low high }
+pub fn read_ports(s: &[u8]) -> Option<Ports>
+    ensures { spec.ports_as result ≡ spec.ports_of s.now }
 {
-    if low <= high {
-        if high <= 65535 {
-            return Ports {
-                good: true,
-                low: low as u16,
-                high: high as u16,
-            };
-        }
+    let (low, high) = halves(s, b'-');
+    let ports = Ports {
+        low: number(low)?,
+        high: number(high)?,
+    };
+    if ports.high < ports.low {
+        return None;
     }
-    Ports {
-        good: false,
-        low: 0,
-        high: 0,
-    }
+    Some(ports)
 }
 
-pub fn read_ports(s: &[u8]) -> Ports
-    ensures { result ≡ spec.ports_of s.now }
+pub fn read_action(s: &[u8]) -> Option<Action>
+    ensures { spec.action_as result ≡ spec.action_of s.now }
 {
-    let c = cut(s, DASH);
-    let e = c.end;
-    let n = c.next;
-    pair(number(&s[..e]), number(&s[n..]))
-}
-
-pub fn read_action(s: &[u8]) -> u8
-    ensures { result ≡ spec.action_of s.now }
-{
-    if same(s, b"permit") {
-        return 0;
+    match s {
+        b"permit" => Some(Action::Permit),
+        b"deny" => Some(Action::Deny),
+        b"permit-log" => Some(Action::PermitLog),
+        b"deny-log" => Some(Action::DenyLog),
+        _ => None,
     }
-    if same(s, b"deny") {
-        return 1;
-    }
-    if same(s, b"permit-log") {
-        return 2;
-    }
-    if same(s, b"deny-log") {
-        return 3;
-    }
-    NO_ACTION
 }

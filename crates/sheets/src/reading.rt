@@ -1,98 +1,102 @@
 // Reading a sheet into lent memory. The rules are held until every line is known to be good and the memory to be large
 // enough, so that a refused call changes nothing and the text is gone through once.
-ghost use Rattle.std.specs.Prelude.{◌≡◌, ◌*◌, ◌≤◌, length};
-ghost use Rattle.records.specs.Layout.{rule_limit, rule_size};
-ghost use Rattle.sheets.specs.Reading.{ReadRows, Reading, many?, read_as};
+ghost use Rattle.std.specs.Prelude.{◌≡◌};
+ghost use Rattle.sheets.specs.Reading.{ReadRows, Reading, bad_line, many?, read_as};
 
-use crate::cuts::cut;
-use crate::rows::{Row, Rows, read_row};
+use crate::cuts::{cut, halves};
+use crate::rows::{Part, read_row};
 use records::{LIST_BYTES, RULE_LIMIT, RULE_SIZE};
 
-const LINE_FEED: u8 = 10;
+const LINE_FEED: u8 = b'\n';
 
 // The most bytes of a sheet.
 pub const SHEET_LIMIT: usize = 65536;
 
-#[derive(Clone, Copy)]
-pub enum Sheet {
+#[derive(Clone, Copy, Debug, PartialEq, Eq)]
+pub enum SheetError {
     // 21: the sheet is too long.
     Long,
     // 6: there are too many lines.
     Many,
-    // 20: the first bad line, from 1, and its first bad field.
-    Bad(u32, u32),
+    // 20: the first bad line, from 1, and its first bad part.
+    Bad { line: u32, part: Part },
     // 4: so many bytes are needed.
     Room(u32),
-    // So many rules were written.
-    Rules(u32),
+}
+
+// The first bad line, from 1, and its first bad part.
+#[derive(Clone, Copy, Debug, PartialEq, Eq)]
+pub struct BadLine {
+    pub line: u32,
+    pub part: Part,
+}
+
+impl From<BadLine> for SheetError {
+    ghost from_gives = { λ bad error. error ≡ bad_line bad };
+
+    fn from(bad: BadLine) -> SheetError {
+        SheetError::Bad {
+            line: bad.line,
+            part: bad.part,
+        }
+    }
 }
 
 // A byte stands after the last line that is allowed.
 fn many(text: &[u8]) -> bool
     ensures { result ≡ many? text.now }
 {
-    let mut k: usize = 0;
-    let mut from: usize = 0;
-    while k < RULE_LIMIT {
-        from += cut(&text[from..], LINE_FEED).next;
-        k += 1;
+    let mut rest = text;
+    for _ in 0..RULE_LIMIT {
+        rest = halves(rest, LINE_FEED).1;
     }
-    from < text.len()
+    !rest.is_empty()
 }
 
-// Reads the lines of a text, writes the rule of each into held, and stops at the first that is bad.
-fn read_rows(text: &[u8], held: &mut [u8]) -> Rows
-    requires { rule_size * rule_limit ≤ length held.old }
+// Reads the lines of a text, writes the rule of each into held, and stops at the first that is bad. How many lines there are.
+fn read_rows(text: &[u8], held: &mut [u8; LIST_BYTES]) -> Result<u32, BadLine>
     ensures { ReadRows text.now held.old result held.new }
 {
-    let mut i: u32 = 0;
-    let mut from: usize = 0;
-    let mut at: usize = 0;
-    while at < LIST_BYTES {
-        if from == text.len() {
-            return Rows::Good(i);
+    let mut rest = text;
+    for i in 0..RULE_LIMIT {
+        if rest.is_empty() {
+            return Ok(i as u32);
         }
-        let rest = &text[from..];
-        let c = cut(rest, LINE_FEED);
-        let end = c.end;
-        let next = c.next;
-        if end == next {
-            return Rows::Bad(i + 1, 0);
-        }
-        match read_row(&rest[..end]) {
-            Row::Bad(k) => {
-                return Rows::Bad(i + 1, k);
-            }
-            Row::Good(r) => {
-                records::put_rule(held, at, r);
-                i += 1;
-                from += next;
-                at += RULE_SIZE;
+        let line = i as u32 + 1;
+        let unended = BadLine {
+            line,
+            part: Part::Line,
+        };
+        let Some((row, others)) = cut(rest, LINE_FEED) else {
+            return Err(unended);
+        };
+        match read_row(row) {
+            Ok(rule) => fields::put(held, RULE_SIZE * i, &rule.to_bytes()),
+            Err(part) => {
+                return Err(BadLine { line, part });
             }
         }
+        rest = others;
     }
-    Rows::Good(i)
+    Ok(RULE_LIMIT as u32)
 }
 
-pub fn read(text: &[u8], rules: &mut [u8]) -> Sheet
+// Reads a sheet, and answers how many rules it has.
+pub fn read(text: &[u8], rules: &mut [u8]) -> Result<u32, SheetError>
     ensures { Reading text.now rules.old (read_as result) rules.new }
 {
     if SHEET_LIMIT < text.len() {
-        return Sheet::Long;
+        return Err(SheetError::Long);
     }
     if many(text) {
-        return Sheet::Many;
+        return Err(SheetError::Many);
     }
-    let mut held = [0u8; LIST_BYTES];
-    match read_rows(text, &mut held) {
-        Rows::Bad(line, field) => Sheet::Bad(line, field),
-        Rows::Good(n) => {
-            let bytes = RULE_SIZE * (n as usize);
-            if rules.len() < bytes {
-                return Sheet::Room(bytes as u32);
-            }
-            texts::put_text(rules, 0, &held[..bytes]);
-            Sheet::Rules(n)
-        }
+    let mut held = [0; LIST_BYTES];
+    let count = read_rows(text, &mut held)?;
+    let bytes = RULE_SIZE * (count as usize);
+    if rules.len() < bytes {
+        return Err(SheetError::Room(bytes as u32));
     }
+    fields::put(rules, 0, &held[..bytes]);
+    Ok(count)
 }

@@ -1,98 +1,63 @@
 // A line of a sheet.
 ghost use Rattle.std.specs.Prelude.{◌≡◌};
-ghost use Rattle.sheets.specs.Rows.{row_from, row_of};
+ghost use Rattle.sheets.specs.Rows.{part_number, row_as, row_of};
 
-use crate::cuts::{count, cut};
-use crate::parts::{ANY, Address, Ports, read_action, read_address, read_ports, read_protocol};
-use records::{LAST_ACTION, Rule};
+use crate::cuts::{count, halves};
+use crate::parts::{Protocol, read_action, read_address, read_ports, read_protocol};
+use records::Rule;
 
-const TAB: u8 = 9;
-
-#[derive(Clone, Copy)]
-pub enum Row {
-    Good(Rule),
-    // The first bad field, or 0 where there are not six.
-    Bad(u32),
+// What may be wrong with a line, by document 02's numbers: that it has not six fields, or one of the six.
+#[derive(Clone, Copy, Debug, PartialEq, Eq)]
+pub enum Part {
+    Line = 0,
+    Protocol = 1,
+    Source = 2,
+    Destination = 3,
+    SourcePorts = 4,
+    DestinationPorts = 5,
+    Action = 6,
 }
 
-#[derive(Clone, Copy)]
-pub enum Rows {
-    // So many lines, all good.
-    Good(u32),
-    // The first bad line, from 1, and its first bad field.
-    Bad(u32, u32),
+impl From<Part> for u32 {
+    ghost from_gives = { λ part number. number ≡ part_number part };
+
+    fn from(part: Part) -> u32 {
+        part as u32
+    }
 }
 
-fn row_from(p: u32, src: Address, dst: Address, sports: Ports, dports: Ports, act: u8) -> Row
-    ensures { result ≡ row_from p src dst sports dports act }
+// The rule that a line says, or its first bad part.
+pub fn read_row(s: &[u8]) -> Result<Rule, Part>
+    ensures { row_as result ≡ row_of s.now }
 {
-    if ANY < p {
-        return Row::Bad(1);
+    if count(s, b'\t') != 5 {
+        return Err(Part::Line);
     }
-    if !src.good {
-        return Row::Bad(2);
-    }
-    if !dst.good {
-        return Row::Bad(3);
-    }
-    if !sports.good {
-        return Row::Bad(4);
-    }
-    if !dports.good {
-        return Row::Bad(5);
-    }
-    if LAST_ACTION < act {
-        return Row::Bad(6);
-    }
-    // Divided by ANY, a protocol gives 0 and leaves itself, and ANY gives 1 and leaves 0: the flag, and the protocol under it.
-    Row::Good(Rule {
-        flag: (p / ANY) as u8,
-        proto: (p % ANY) as u8,
-        src: src.bits,
+    let (protocol, rest) = halves(s, b'\t');
+    let (source, rest) = halves(rest, b'\t');
+    let (destination, rest) = halves(rest, b'\t');
+    let (source_ports, rest) = halves(rest, b'\t');
+    let (destination_ports, action) = halves(rest, b'\t');
+    let (flag, proto) = match read_protocol(protocol).ok_or(Part::Protocol)? {
+        Protocol::Any => (1, 0),
+        Protocol::Exact(proto) => (0, proto),
+    };
+    let src = read_address(source).ok_or(Part::Source)?;
+    let dst = read_address(destination).ok_or(Part::Destination)?;
+    let sports = read_ports(source_ports).ok_or(Part::SourcePorts)?;
+    let dports = read_ports(destination_ports).ok_or(Part::DestinationPorts)?;
+    let act = read_action(action).ok_or(Part::Action)?;
+    Ok(Rule {
+        flag,
+        proto,
+        src: src.address,
         slen: src.len,
-        dst: dst.bits,
+        dst: dst.address,
         dlen: dst.len,
         slow: sports.low,
         shigh: sports.high,
         dlow: dports.low,
         dhigh: dports.high,
-        action: act,
+        action: act.into(),
     })
-}
-
-// The rule that a line says.
-pub fn read_row(s: &[u8]) -> Row
-    ensures { result ≡ row_of s.now }
-{
-    if count(s, TAB) != 5 {
-        return Row::Bad(0);
-    }
-    let c1 = cut(s, TAB);
-    let e1 = c1.end;
-    let n1 = c1.next;
-    let s2 = &s[n1..];
-    let c2 = cut(s2, TAB);
-    let e2 = c2.end;
-    let n2 = c2.next;
-    let s3 = &s2[n2..];
-    let c3 = cut(s3, TAB);
-    let e3 = c3.end;
-    let n3 = c3.next;
-    let s4 = &s3[n3..];
-    let c4 = cut(s4, TAB);
-    let e4 = c4.end;
-    let n4 = c4.next;
-    let s5 = &s4[n4..];
-    let c5 = cut(s5, TAB);
-    let e5 = c5.end;
-    let n5 = c5.next;
-    let s6 = &s5[n5..];
-    row_from(
-        read_protocol(&s[..e1]),
-        read_address(&s2[..e2]),
-        read_address(&s3[..e3]),
-        read_ports(&s4[..e4]),
-        read_ports(&s5[..e5]),
-        read_action(s6),
-    )
 }
