@@ -8,7 +8,6 @@ use Rattle.blocks.specs.declared.Word.{Word}
 use Rattle.records.specs.Entries.{entry_of}
 use Rattle.records.specs.declared.Entry.{Entry}
 use Rattle.records.specs.Keys.{key}
-use Rattle.records.specs.declared.Key.{Key}
 use Rattle.records.specs.declared.Rule.{Rule}
 
 -- ---- a rule's words, field by field
@@ -46,6 +45,11 @@ entry_with r i p s d =
     entry_of (key p.value source.value dest.value s.value d.value)
     (key p.mask source.mask dest.mask s.mask d.mask) i r.action
 
+-- the record with these port words in place of its own
+abbrev pub ported_entry : Entry → Word → Word → Entry
+ported_entry e s d =
+    entry_of (key e.value.proto e.value.src e.value.dst s.value d.value) (key e.mask.proto e.mask.src e.mask.dst s.mask d.mask) e.rule e.action
+
 -- the records of rule number i: protocol words, with source port words, with destination port words, in that nesting
 unfoldable pub rule_entries : ℕ → Rule → List Entry
 rule_entries i r = each (proto_words r) (λ (p : Word). each (source_words r) (λ (s : Word). map (entry_with r i p s) (dest_words r)))
@@ -60,21 +64,7 @@ unfoldable pub needed : List Rule → ℕ
 needed [] = 0
 needed (r ∷ rs) = length (rule_entries 0 r) + needed rs
 
--- ---- as the code writes them: the part of a record that is settled stands in a value and a mask
-
--- one source word with every destination word
-unfoldable pub port_row : Key → Key → Rule → ℕ → List Word → List Entry
-port_row v m r i [] = []
-port_row v m r i (d ∷ ds) =
-    entry_of (key v.proto v.src v.dst v.sport d.value) (key m.proto m.src m.dst m.sport d.mask) i r.action
-    ∷ port_row v m r i ds
-
--- every source word with every destination word
-unfoldable pub port_rows : Key → Key → Rule → ℕ → List Word → List Entry
-port_rows v m r i [] = []
-port_rows v m r i (s ∷ ss) =
-    port_row (key v.proto v.src v.dst s.value v.dport) (key m.proto m.src m.dst s.mask m.dport) r i (dest_words r)
-    ++ port_rows v m r i ss
+-- ---- what is asked and answered
 
 -- what writing a rule asks of it: prefixes of at most 32 bits, and intervals in order
 pub record Good (r : Rule) : Type 0 where

@@ -22,8 +22,7 @@ pub fn put_decimal(t: &mut [u8], at: usize, x: u32) -> usize
     if 10 <= x {
         to = put_decimal(t, at, x / 10);
     }
-    fields::put1(t, to, 48 + (x % 10) as u8);
-    to + 1
+    put_text(t, to, &[b'0' + (x % 10) as u8])
 }
 
 // Writes s as it is.
@@ -31,12 +30,8 @@ pub fn put_text(t: &mut [u8], at: usize, s: &[u8]) -> usize
     requires { at + length s.now ≤ length t.old }
     ensures { Puts t.old at s.now result t.new }
 {
-    let mut i: usize = 0;
-    while i < s.len() {
-        fields::put1(t, at + i, s[i]);
-        i += 1;
-    }
-    at + i
+    fields::put(t, at, s);
+    at + s.len()
 }
 
 fn hex_digit(d: u8) -> u8
@@ -44,9 +39,9 @@ fn hex_digit(d: u8) -> u8
     ensures { result ≡ hex_digit d }
 {
     if d < 10 {
-        return 48 + d;
+        return b'0' + d;
     }
-    55 + d
+    b'A' + (d - 10)
 }
 
 // Writes the bytes of s as two hex digits each.
@@ -54,32 +49,27 @@ pub fn put_hex(t: &mut [u8], at: usize, s: &[u8]) -> usize
     requires { at + 2 * length s.now ≤ length t.old }
     ensures { Puts t.old at (hex_of s.now) result t.new }
 {
-    let mut i: usize = 0;
-    let mut to = at;
-    while i < s.len() {
-        fields::put1(t, to, hex_digit(s[i] / 16));
-        fields::put1(t, to + 1, hex_digit(s[i] % 16));
-        to += 2;
-        i += 1;
+    for (i, byte) in s.iter().enumerate() {
+        fields::put(
+            t,
+            at + 2 * i,
+            &[hex_digit(byte / 16), hex_digit(byte % 16)],
+        );
     }
-    to
+    at + 2 * s.len()
 }
 
-// Writes the word for an action.
+// Writes the word for an action. The byte is the record's own, so it may be none of the four; the last word stands for it.
 fn put_action(t: &mut [u8], at: usize, action: u8) -> usize
     requires { at + 10 ≤ length t.old }
     ensures { Puts t.old at (action_text action) result t.new }
 {
-    if action == 0 {
-        return put_text(t, at, b"permit");
+    match action {
+        0 => put_text(t, at, b"permit"),
+        1 => put_text(t, at, b"deny"),
+        2 => put_text(t, at, b"permit-log"),
+        _ => put_text(t, at, b"deny-log"),
     }
-    if action == 1 {
-        return put_text(t, at, b"deny");
-    }
-    if action == 2 {
-        return put_text(t, at, b"permit-log");
-    }
-    put_text(t, at, b"deny-log")
 }
 
 // Writes x in decimal, and a tab.
@@ -89,8 +79,7 @@ fn put_number(t: &mut [u8], at: usize, x: u32) -> usize
     ensures { Puts t.old at (decimal x ++ (tab ∷ [])) result t.new }
 {
     let to = put_decimal(t, at, x);
-    fields::put1(t, to, 9);
-    to + 1
+    put_text(t, to, b"\t")
 }
 
 // Writes the bytes of s as hex digits, and a tab.
@@ -99,8 +88,7 @@ fn put_bytes(t: &mut [u8], at: usize, s: &[u8]) -> usize
     ensures { Puts t.old at (hex_of s.now ++ (tab ∷ [])) result t.new }
 {
     let to = put_hex(t, at, s);
-    fields::put1(t, to, 9);
-    to + 1
+    put_text(t, to, b"\t")
 }
 
 // Writes the line of the record at the start of s, which has this index.
@@ -111,10 +99,9 @@ pub fn put_word(t: &mut [u8], at: usize, index: u32, s: &[u8]) -> usize
     ensures { Puts t.old at (word_line index s.now) result t.new }
 {
     let a = put_number(t, at, index);
-    let b = put_number(t, a, s[NUMBER_AT] as u32);
+    let b = put_number(t, a, u32::from(s[NUMBER_AT]));
     let c = put_bytes(t, b, &s[..KEY_SIZE]);
     let d = put_bytes(t, c, &s[MASK_AT..NUMBER_AT]);
     let e = put_action(t, d, s[ACTION_AT]);
-    fields::put1(t, e, 10);
-    e + 1
+    put_text(t, e, b"\n")
 }
