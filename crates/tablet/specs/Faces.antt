@@ -1,8 +1,15 @@
--- What the C face adds to the calls that it hands on to: an index in 32 bits, and a walk whose flag is a number.
-use Rattle.std.specs.Prelude.{Bool, not, ℕ, ◌%◌, ◌^◌, eqb, if◌then◌else◌}
+-- What the C face adds to the calls that it hands on to: an index in 32 bits, and a walk whose flag is a number. And the parts
+-- of an outcome, each as the answer that it makes.
+use Rattle.std.specs.Prelude.{Bool, not, ℕ, ◌%◌, ◌^◌, Option, None, Some, eqb, if◌then◌else◌}
+use Rattle.answers.specs.Answers.{done}
 use Rattle.answers.specs.declared.Answer.{Answer}
+use Rattle.intervals.specs.Checks.{verdict_as}
 use Rattle.intervals.specs.Walks.{Stepped, stepping}
 use Rattle.intervals.specs.declared.walks.Walk as inner
+use Rattle.records.specs.Actions.{action_number}
+use Rattle.rules.specs.declared.finding.Found as rule
+use Rattle.tables.specs.declared.finding.Found as record_found
+use Rattle.tablet.specs.declared.convert.Verdict.{Verdict}
 use Rattle.tablet.specs.declared.steps.Step.{Step}
 use Rattle.tablet.specs.declared.steps.Walk.{Walk}
 
@@ -32,3 +39,19 @@ face_of w s = record {
 
 unfoldable pub step_face : Walk → Step
 step_face w = face_of w (stepping (handed_in w))
+
+-- ---- the parts of an outcome
+
+-- what is found, or nothing
+abbrev pub or_nothing : {A : Type 0} → (A → Answer) → Option A → Answer
+or_nothing says None = done 0 0 0 0
+or_nothing says (Some x) = says x
+
+abbrev pub rule_as : rule.Found → Answer
+rule_as f = done 1 f.rule (action_number f.action) 0
+
+abbrev pub record_as : record_found.Found → Answer
+record_as f = done 1 f.index f.rule (action_number f.action)
+
+abbrev pub verdict_in : Verdict → Answer
+verdict_in v = verdict_as v.0

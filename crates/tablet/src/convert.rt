@@ -1,86 +1,131 @@
-// From each call's answer to document 01's number and values.
+// From each call's outcome to document 01's number and values.
 ghost use Rattle.std.specs.Prelude.{◌≡◌, ◌%◌, ◌^◌};
-ghost use Rattle.answers.specs.Answers.{done, refused};
-ghost use Rattle.intervals.specs.Bounds.{closed_as};
-ghost use Rattle.intervals.specs.Checks.{checked_as};
-ghost use Rattle.intervals.specs.Ends.{number_of};
-ghost use Rattle.intervals.specs.Lists.{counted_as, listed_as};
+ghost use Rattle.answers.specs.Answers.{answer_of, one_number};
+ghost use Rattle.answers.specs.Refusals as refusal;
+ghost use Rattle.intervals.specs.Bounds.{ends_as};
+ghost use Rattle.intervals.specs.Checks.{check_error_as, verdict_as};
+ghost use Rattle.intervals.specs.Ends.{fault_as, number_of};
+ghost use Rattle.intervals.specs.Lists.{list_error_as};
+ghost use Rattle.records.specs.Actions.{action_number};
 ghost use Rattle.rules.specs.Faults.{list_fault_as};
-ghost use Rattle.rules.specs.Finding as rule;
-ghost use Rattle.sheets.specs.Reading.{read_as};
-ghost use Rattle.tables.specs.Compiling.{compiled_as};
-ghost use Rattle.tables.specs.Looking as word;
-ghost use Rattle.tablet.specs.Faces.{in32};
+ghost use Rattle.rules.specs.Finding.{find_error_as};
+ghost use Rattle.sheets.specs.Reading.{sheet_error_as};
+ghost use Rattle.tables.specs.Compiling.{compile_error_as};
+ghost use Rattle.tables.specs.Looking.{look_error_as};
+ghost use Rattle.tablet.specs.Faces.{in32, or_nothing, record_as, rule_as, verdict_in};
+ghost use Rattle.answers.specs.declared.Answer.{Answer};
 
-use answers::Answer;
-use intervals::{Checked, Closed, Counted, Fault, Listed};
-use rules::ListFault;
-use sheets::Sheet;
-use tables::Compiled;
+use answers::{Answer, Refusal};
+use intervals::{CheckError, Closed, Fault, ListError};
+use rules::{FindError, ListFault};
+use sheets::SheetError;
+use tables::{CompileError, LookError};
 
-fn done_with(a: u32, b: u32, c: u32, d: u32) -> Answer
-    ensures { result ≡ done a b c d }
-{
-    Answer { no: 0, a, b, c, d }
+// What has a number and values in document 01.
+pub trait ToAnswer {
+    ghost says: { Self → Answer };
+
+    fn answer(self) -> Answer
+        ensures { result ≡ says self };
 }
 
-fn refused_with(number: u32, a: u32, b: u32) -> Answer
-    ensures { result ≡ refused number a b }
-{
-    Answer {
-        no: number,
-        a,
-        b,
-        c: 0,
-        d: 0,
+impl<T: ToAnswer, E: ToAnswer> ToAnswer for Result<T, E> {
+    ghost says = { answer_of T.says E.says };
+
+    fn answer(self) -> Answer {
+        match self {
+            Ok(value) => value.answer(),
+            Err(error) => error.answer(),
+        }
     }
 }
 
-pub fn fault_number(f: Fault) -> u32
-    ensures { result ≡ number_of f }
-{
-    match f {
-        Fault::Width => answers::WIDTH,
-        Fault::Fit => answers::FIT,
-        Fault::Order => answers::ORDER,
+// What is found, or nothing.
+impl<T: ToAnswer> ToAnswer for Option<T> {
+    ghost says = { or_nothing T.says };
+
+    fn answer(self) -> Answer {
+        match self {
+            Some(found) => found.answer(),
+            None => Answer::done(0, 0, 0, 0),
+        }
     }
 }
 
-fn list_fault(f: ListFault) -> Answer
-    ensures { result ≡ list_fault_as f }
-{
-    match f {
-        ListFault::Odd => refused_with(answers::ODD, 0, 0),
-        ListFault::Many => refused_with(answers::MANY, 0, 0),
-        ListFault::Bad(i, field) => refused_with(answers::RULE, i, field as u32),
+// A number of words or of rules.
+impl ToAnswer for u32 {
+    ghost says = { one_number };
+
+    fn answer(self) -> Answer {
+        Answer::done(self, 0, 0, 0)
     }
 }
 
-pub fn closed(c: Closed) -> Answer
-    ensures { result ≡ closed_as c }
-{
-    match c {
-        Closed::Range { low, high } => done_with(low, high, 0, 0),
-        Closed::Refused(f) => refused_with(fault_number(f), 0, 0),
+impl ToAnswer for Closed {
+    ghost says = { ends_as };
+
+    fn answer(self) -> Answer {
+        Answer::done(self.low, self.high, 0, 0)
     }
 }
 
-pub fn counted(c: Counted) -> Answer
-    ensures { result ≡ counted_as c }
-{
-    match c {
-        Counted::Words(k) => done_with(k, 0, 0, 0),
-        Counted::Refused(f) => refused_with(fault_number(f), 0, 0),
+// What a check says: the smallest value on which the words and the interval disagree, if there is one.
+#[derive(Clone, Copy)]
+pub struct Verdict(pub Option<u32>);
+
+impl ToAnswer for Verdict {
+    ghost says = { verdict_in };
+
+    fn answer(self) -> Answer {
+        match self.0 {
+            None => Answer::done(1, 0, 0, 0),
+            Some(x) => Answer::done(0, x, 0, 0),
+        }
     }
 }
 
-pub fn listed(l: Listed) -> Answer
-    ensures { result ≡ listed_as l }
+impl ToAnswer for rules::Found {
+    ghost says = { rule_as };
+
+    fn answer(self) -> Answer {
+        Answer::done(1, self.rule, self.action.into(), 0)
+    }
+}
+
+impl ToAnswer for tables::Found {
+    ghost says = { record_as };
+
+    fn answer(self) -> Answer {
+        Answer::done(1, self.index, self.rule, self.action.into())
+    }
+}
+
+pub fn why(fault: Fault) -> Refusal
+    ensures { refusal.number_of result ≡ number_of fault }
 {
-    match l {
-        Listed::Words(k) => done_with(k, 0, 0, 0),
-        Listed::Room(k) => refused_with(answers::ROOM, k, 0),
-        Listed::Refused(f) => refused_with(fault_number(f), 0, 0),
+    match fault {
+        Fault::Width => Refusal::Width,
+        Fault::Fit => Refusal::Fit,
+        Fault::Order => Refusal::Order,
+    }
+}
+
+impl ToAnswer for Fault {
+    ghost says = { fault_as };
+
+    fn answer(self) -> Answer {
+        Answer::refused(why(self), 0, 0)
+    }
+}
+
+impl ToAnswer for ListError {
+    ghost says = { list_error_as };
+
+    fn answer(self) -> Answer {
+        match self {
+            ListError::Ends(fault) => fault.answer(),
+            ListError::Room(words) => Answer::refused(Refusal::Room, words, 0),
+        }
     }
 }
 
@@ -91,63 +136,73 @@ fn low32(x: usize) -> u32
     (x % 4294967296) as u32
 }
 
-pub fn checked(c: Checked) -> Answer
-    ensures { result ≡ in32 (checked_as c) }
-{
-    match c {
-        Checked::Yes => done_with(1, 0, 0, 0),
-        Checked::Differs(x) => done_with(0, x, 0, 0),
-        Checked::Refused(f) => refused_with(fault_number(f), 0, 0),
-        Checked::Stated => refused_with(answers::STATED, 0, 0),
-        Checked::Ill(i) => refused_with(answers::ILL, low32(i), 0),
+impl ToAnswer for CheckError {
+    ghost says = { λ e. in32 (check_error_as e) };
+
+    fn answer(self) -> Answer {
+        match self {
+            CheckError::Ends(fault) => fault.answer(),
+            CheckError::Stated => Answer::refused(Refusal::Stated, 0, 0),
+            CheckError::Ill(i) => Answer::refused(Refusal::Ill, low32(i), 0),
+        }
     }
 }
 
-pub fn compiled(c: Compiled) -> Answer
-    ensures { result ≡ compiled_as c }
-{
-    match c {
-        Compiled::Words(k) => done_with(k, 0, 0, 0),
-        Compiled::Refused(f) => list_fault(f),
-        Compiled::Space(k) => refused_with(answers::SPACE, k, 0),
+impl ToAnswer for ListFault {
+    ghost says = { list_fault_as };
+
+    fn answer(self) -> Answer {
+        match self {
+            ListFault::Odd => Answer::refused(Refusal::Odd, 0, 0),
+            ListFault::Many => Answer::refused(Refusal::Many, 0, 0),
+            ListFault::Bad { rule, field } => Answer::refused(Refusal::Rule, rule, field.into()),
+        }
     }
 }
 
-pub fn found_rule(f: rules::Found) -> Answer
-    ensures { result ≡ rule.found_as f }
-{
-    match f {
-        rules::Found::Rule(i, action) => done_with(1, i, action as u32, 0),
-        rules::Found::Nothing => done_with(0, 0, 0, 0),
-        rules::Found::Refused(f) => list_fault(f),
-        rules::Found::Header => refused_with(answers::HEADER, 0, 0),
+impl ToAnswer for FindError {
+    ghost says = { find_error_as };
+
+    fn answer(self) -> Answer {
+        match self {
+            FindError::Rules(fault) => fault.answer(),
+            FindError::Header => Answer::refused(Refusal::Header, 0, 0),
+        }
     }
 }
 
-pub fn found_word(f: tables::Found) -> Answer
-    ensures { result ≡ word.found_as f }
-{
-    match f {
-        tables::Found::Record {
-            index,
-            rule,
-            action,
-        } => done_with(1, index, rule, action as u32),
-        tables::Found::Nothing => done_with(0, 0, 0, 0),
-        tables::Found::Stated => refused_with(answers::STATED, 0, 0),
-        tables::Found::Ill(i) => refused_with(answers::ILL, i, 0),
-        tables::Found::Header => refused_with(answers::HEADER, 0, 0),
+impl ToAnswer for CompileError {
+    ghost says = { compile_error_as };
+
+    fn answer(self) -> Answer {
+        match self {
+            CompileError::Rules(fault) => fault.answer(),
+            CompileError::Space(words) => Answer::refused(Refusal::Space, words, 0),
+        }
     }
 }
 
-pub fn sheet(s: Sheet) -> Answer
-    ensures { result ≡ read_as s }
-{
-    match s {
-        Sheet::Long => refused_with(answers::LONG, 0, 0),
-        Sheet::Many => refused_with(answers::MANY, 0, 0),
-        Sheet::Bad(line, field) => refused_with(answers::LINE, line, field),
-        Sheet::Room(bytes) => refused_with(answers::ROOM, bytes, 0),
-        Sheet::Rules(n) => done_with(n, 0, 0, 0),
+impl ToAnswer for LookError {
+    ghost says = { look_error_as };
+
+    fn answer(self) -> Answer {
+        match self {
+            LookError::Stated => Answer::refused(Refusal::Stated, 0, 0),
+            LookError::Ill(i) => Answer::refused(Refusal::Ill, i, 0),
+            LookError::Header => Answer::refused(Refusal::Header, 0, 0),
+        }
+    }
+}
+
+impl ToAnswer for SheetError {
+    ghost says = { sheet_error_as };
+
+    fn answer(self) -> Answer {
+        match self {
+            SheetError::Long => Answer::refused(Refusal::Long, 0, 0),
+            SheetError::Many => Answer::refused(Refusal::Many, 0, 0),
+            SheetError::Bad { line, part } => Answer::refused(Refusal::Line, line, part.into()),
+            SheetError::Room(bytes) => Answer::refused(Refusal::Room, bytes, 0),
+        }
     }
 }

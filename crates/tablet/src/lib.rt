@@ -16,58 +16,61 @@ ghost use Rattle.tables.specs.Looking.{looking};
 ghost use Rattle.tablet.specs.Faces.{in32, step_face};
 
 use answers::Answer;
+use convert::{ToAnswer, Verdict};
 pub use steps::{Step, Walk};
 
 pub fn ashkavorz_close(width: u32, a: i32, b: i32) -> Answer
     ensures { result ≡ closing width a b }
 {
-    convert::closed(intervals::close(width, a, b))
+    intervals::close(width, a, b).answer()
 }
 
 pub fn ashkavorz_count(width: u32, low: u32, high: u32) -> Answer
     ensures { result ≡ counting width low high }
 {
-    convert::counted(intervals::count(width, low, high))
+    intervals::count(width, low, high).answer()
 }
 
 pub fn ashkavorz_list(width: u32, low: u32, high: u32, out: &mut [u16]) -> Answer
     ensures { Listing width low high out.old result out.new }
 {
-    convert::listed(intervals::list(width, low, high, out))
+    intervals::list(width, low, high, out).answer()
 }
 
 pub fn ashkavorz_step(walk: Walk) -> Step
     ensures { result ≡ step_face walk }
 {
-    steps::stepped(walk, steps::walk_in(walk).step())
+    steps::stepped(walk, intervals::Walk::from(walk).step())
 }
 
 pub fn ashkavorz_check(width: u32, low: u32, high: u32, list: &[u16], k: usize) -> Answer
     ensures { result ≡ in32 (checking width low high list.now k) }
 {
-    convert::checked(intervals::check(width, low, high, list, k))
+    intervals::check(width, low, high, list, k)
+        .map(Verdict)
+        .answer()
 }
 
 pub fn ashkavorz_compile(rules: &[u8], table: &mut [u8]) -> Answer
     ensures { Compiling rules.now table.old result table.new }
 {
-    convert::compiled(tables::compile(rules, table))
+    tables::compile(rules, table).answer()
 }
 
 pub fn ashkavorz_find_rule(rules: &[u8], header: &[u8]) -> Answer
     ensures { result ≡ finding rules.now header.now }
 {
-    convert::found_rule(rules::find_rule(rules, header))
+    rules::find_rule(rules, header).answer()
 }
 
 pub fn ashkavorz_find_word(table: &[u8], k: usize, header: &[u8]) -> Answer
     ensures { result ≡ looking table.now k header.now }
 {
-    convert::found_word(tables::find_word(table, k, header))
+    tables::find_word(table, k, header).answer()
 }
 
 pub fn ashkavorz_read_sheet(text: &[u8], rules: &mut [u8]) -> Answer
     ensures { Reading text.now rules.old result rules.new }
 {
-    convert::sheet(sheets::read(text, rules))
+    sheets::read(text, rules).answer()
 }

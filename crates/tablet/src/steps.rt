@@ -3,8 +3,8 @@ ghost use Rattle.std.specs.Prelude.{◌≡◌};
 ghost use Rattle.intervals.specs.Walks.{stepped_as};
 ghost use Rattle.tablet.specs.Faces.{face_of, handed_in, handed_out};
 
-use crate::convert::fault_number;
-use intervals::Gave;
+use crate::convert::why;
+use intervals::Fault;
 
 #[repr(C)]
 #[derive(Clone, Copy)]
@@ -25,56 +25,56 @@ pub struct Step {
     pub walk: Walk,
 }
 
-pub fn walk_in(w: Walk) -> intervals::Walk
-    ensures { result ≡ handed_in w }
-{
-    intervals::Walk {
-        width: w.width,
-        next: w.next,
-        last: w.last,
-        ended: w.ended != 0,
+impl From<Walk> for intervals::Walk {
+    ghost from_gives = { λ walk inner. inner ≡ handed_in walk };
+
+    fn from(walk: Walk) -> intervals::Walk {
+        intervals::Walk {
+            width: walk.width,
+            next: walk.next,
+            last: walk.last,
+            ended: walk.ended != 0,
+        }
     }
 }
 
-fn walk_out(w: intervals::Walk) -> Walk
-    ensures { result ≡ handed_out w }
-{
-    let ended: u32 = if w.ended { 1 } else { 0 };
-    Walk {
-        width: w.width,
-        next: w.next,
-        last: w.last,
-        ended,
+impl From<intervals::Walk> for Walk {
+    ghost from_gives = { λ inner walk. walk ≡ handed_out inner };
+
+    fn from(inner: intervals::Walk) -> Walk {
+        Walk {
+            width: inner.width,
+            next: inner.next,
+            last: inner.last,
+            ended: u32::from(inner.ended),
+        }
     }
 }
 
-// The step s of the walk w.
-pub fn stepped(w: Walk, s: intervals::Step) -> Step
-    ensures { result ≡ face_of w (stepped_as s) }
+// The step of the walk w that has this outcome.
+pub fn stepped(w: Walk, outcome: Result<Option<intervals::Step>, Fault>) -> Step
+    ensures { result ≡ face_of w (stepped_as (handed_in w) outcome) }
 {
-    let value = s.word.value as u32;
-    let mask = s.word.mask as u32;
-    let g = s.gave;
-    match g {
-        Gave::Next => Step {
+    match outcome {
+        Ok(Some(step)) => Step {
             no: 0,
             given: 1,
-            value,
-            mask,
-            walk: walk_out(s.walk),
+            value: u32::from(step.word.value),
+            mask: u32::from(step.word.mask),
+            walk: step.walk.into(),
         },
-        Gave::NoMore => Step {
+        Ok(None) => Step {
             no: 0,
             given: 0,
-            value,
-            mask,
+            value: 0,
+            mask: 0,
             walk: w,
         },
-        Gave::Refused(f) => Step {
-            no: fault_number(f),
+        Err(fault) => Step {
+            no: why(fault).into(),
             given: 0,
-            value,
-            mask,
+            value: 0,
+            mask: 0,
             walk: w,
         },
     }
