@@ -4,3 +4,4 @@ pub mod Blocks
 pub mod Lowest
 pub mod Counting
 pub mod Walked
+pub mod Symbols

@@ -7,9 +7,11 @@ ghost use Rattle.blocks.specs.Lowest.{Free};
 ghost use Rattle.blocks.specs.Tests.{formed?, matches?};
 
 mod intervals;
+mod patterns;
 mod words;
 
 pub use intervals::Interval;
+pub use patterns::Pattern;
 pub use words::Words;
 
 // A ternary word: a mask bit of 1 means that the bit counts, 0 is a don't care.

@@ -4,7 +4,7 @@
 
 mod intervals_run;
 mod lists_run;
-mod say;
+mod refused;
 mod tables_run;
 
 use std::io;

@@ -1,338 +1,304 @@
 // The cases of compiling and of the records that headers find.
-use crate::lists_run::{any_rule, by_rule, fields, list_fault, pairs, part};
-use crate::say;
-use records::{LIST_BYTES, RECORD_SIZE, RULE_SIZE, TABLE_BYTES};
+use crate::lists_run::{ANY, by_rule, fields, header, pairs};
+use crate::refused::Refused;
+use records::{Entry, KEY_SIZE, Key, RECORD_SIZE, RULE_LIMIT, RULE_SIZE, Rule, TABLE_BYTES};
 use std::io;
-use tables::Compiled;
 
-// Bytes of one rule more than a list may have, and of two records.
-const OVER: usize = LIST_BYTES + RULE_SIZE;
+// One rule more than a list may have.
+const OVER: usize = RULE_LIMIT + 1;
 
-const TWO: usize = 2 * RECORD_SIZE;
-
-fn compiled(rt: &impl Print, c: Compiled) -> io::Result<()> {
-    match c {
-        Compiled::Words(k) => {
-            say::number(rt, k)?;
-            say::text(rt, b" words")?;
-        }
-        Compiled::Refused(f) => list_fault(rt, f)?,
-        Compiled::Space(k) => {
-            say::refused(rt, answers::SPACE)?;
-            say::text(rt, b" with ")?;
-            say::number(rt, k)?;
-        }
+// Compiles into a table of so many bytes, of at most 2,048 words.
+fn compile_in(rt: &impl Print, label: &str, rules: &[u8], room: usize) -> io::Result<()> {
+    let mut table = [0; TABLE_BYTES];
+    let lent = room.min(TABLE_BYTES);
+    print!(rt; "compile {label}: ")?;
+    match tables::compile(rules, &mut table[..lent]) {
+        Ok(words) => println!(rt; "{words} words"),
+        Err(error) => println!(rt; "{}", Refused::from(error)),
     }
-    say::end(rt)
-}
-
-fn words(c: Compiled) -> usize {
-    match c {
-        Compiled::Words(k) => k as usize,
-        Compiled::Refused(_) => 0,
-        Compiled::Space(_) => 0,
-    }
-}
-
-// Compiles into the first bytes of a table, or into all of it where it has fewer.
-fn compile_part(rules: &[u8], table: &mut [u8], room: usize) -> Compiled {
-    if table.len() < room {
-        return tables::compile(rules, table);
-    }
-    tables::compile(rules, &mut table[..room])
-}
-
-fn compile_label(rt: &impl Print, label: &[u8]) -> io::Result<()> {
-    say::text(rt, b"compile ")?;
-    say::text(rt, label)?;
-    say::text(rt, b": ")
-}
-
-// Compiles into a table of so many bytes.
-fn compile_in(rt: &impl Print, label: &[u8], rules: &[u8], room: usize) -> io::Result<()> {
-    let mut table = [0u8; TABLE_BYTES];
-    compile_label(rt, label)?;
-    compiled(rt, compile_part(rules, &mut table, room))
 }
 
 // Compiles into a table with room for 2,048 words.
-fn compile(rt: &impl Print, label: &[u8], rules: &[u8]) -> io::Result<()> {
+fn compile(rt: &impl Print, label: &str, rules: &[u8]) -> io::Result<()> {
     compile_in(rt, label, rules, TABLE_BYTES)
 }
 
-fn by_word(rt: &impl Print, label: &[u8], table: &[u8], k: usize, header: &[u8]) -> io::Result<()> {
-    say::text(rt, b"by word, ")?;
-    say::text(rt, label)?;
-    say::text(rt, b": ")?;
+fn by_word(rt: &impl Print, label: &str, table: &[u8], k: usize, header: &[u8]) -> io::Result<()> {
+    print!(rt; "by word, {label}: ")?;
     match tables::find_word(table, k, header) {
-        tables::Found::Record {
-            index,
-            rule,
-            action,
-        } => {
-            say::text(rt, b"record ")?;
-            say::number(rt, index)?;
-            say::text(rt, b", rule ")?;
-            say::number(rt, rule)?;
-            say::text(rt, b", action ")?;
-            say::byte(rt, action)?;
+        Ok(Some(found)) => {
+            let action = u8::from(found.action);
+            println!(rt; "record {}, rule {}, action {action}", found.index, found.rule)
         }
-        tables::Found::Nothing => say::text(rt, b"nothing")?,
-        tables::Found::Stated => say::refused(rt, answers::STATED)?,
-        tables::Found::Ill(i) => {
-            say::refused(rt, answers::ILL)?;
-            say::text(rt, b" with ")?;
-            say::number(rt, i)?;
-        }
-        tables::Found::Header => say::refused(rt, answers::HEADER)?,
+        Ok(None) => println!(rt; "nothing"),
+        Err(error) => println!(rt; "{}", Refused::from(error)),
     }
-    say::end(rt)
 }
 
-// Compiles, and finds a header in the table.
-fn compile_find(rt: &impl Print, label: &[u8], rules: &[u8], header: &[u8]) -> io::Result<()> {
-    let mut table = [0u8; TABLE_BYTES];
-    let k = words(tables::compile(rules, &mut table));
-    by_word(rt, label, &table, k, header)
+// Compiles, and finds a header in the table; one that is refused has no words.
+fn compile_find(rt: &impl Print, label: &str, rules: &[u8], header: &[u8]) -> io::Result<()> {
+    let mut table = [0; TABLE_BYTES];
+    let k = tables::compile(rules, &mut table).unwrap_or(0);
+    by_word(rt, label, &table, k as usize, header)
 }
 
 // Finds a header in the rules, and in the table compiled from them.
-fn both(rt: &impl Print, label: &[u8], rules: &[u8], header: &[u8]) -> io::Result<()> {
+fn both(rt: &impl Print, label: &str, rules: &[u8], header: &[u8]) -> io::Result<()> {
     by_rule(rt, label, rules, header)?;
     compile_find(rt, label, rules, header)
 }
 
-// Table 1 of source document 001, and a header with ports 1080 and 2080.
-fn first_table(rt: &impl Print) -> io::Result<()> {
-    let rules = b"\x01\0\0\0\0\0\0\0\0\0\0\0\0\x01\xFF\xFF\x1A\x86\x1A\x86\0\
-        \x01\0\0\0\0\0\0\0\0\0\0\0\x03\xE8\x07\xD0\0\x01\x15\xD5\0\
-        \x01\0\0\0\0\0\0\0\0\0\0\0\0\0\xFF\xFF\0\0\xFF\xFF\x01";
-    let second = [6u8, 10, 0, 0, 1, 10, 0, 0, 2, 4, 56, 8, 32];
-    let first = [6u8, 10, 0, 0, 1, 10, 0, 0, 2, 4, 56, 26, 134];
-    let last = [6u8, 10, 0, 0, 1, 10, 0, 0, 2, 0, 0, 26, 134];
-    compile(rt, b"table 1 of source document 001", rules)?;
-    both(rt, b"ports 1080 and 2080", rules, &second)?;
-    both(rt, b"ports 1080 and 6790", rules, &first)?;
-    both(rt, b"ports 0 and 6790", rules, &last)
+// A header of protocol 6 from 10.0.0.1 to 10.0.0.2.
+fn between(sport: u16, dport: u16) -> [u8; KEY_SIZE] {
+    let key = Key {
+        proto: 6,
+        src: 167772161,
+        dst: 167772162,
+        sport,
+        dport,
+    };
+    key.to_bytes()
 }
 
-// Bytes in hex.
-fn hex(rt: &impl Print, s: &[u8]) -> io::Result<()> {
-    let mut i: usize = 0;
-    while i < s.len() {
-        say::hex(rt, s[i])?;
-        i += 1;
-    }
-    say::end(rt)
+// Table 1 of source document 001, and headers with some ports.
+fn first_table(rt: &impl Print) -> io::Result<()> {
+    let first = Rule {
+        slow: 1,
+        dlow: 6790,
+        dhigh: 6790,
+        ..ANY
+    };
+    let second = Rule {
+        slow: 1000,
+        shigh: 2000,
+        dlow: 1,
+        dhigh: 5589,
+        ..ANY
+    };
+    let last = Rule { action: 1, ..ANY };
+    let list = [first.to_bytes(), second.to_bytes(), last.to_bytes()];
+    let rules = list.as_flattened();
+    compile(rt, "table 1 of source document 001", rules)?;
+    both(rt, "ports 1080 and 2080", rules, &between(1080, 2080))?;
+    both(rt, "ports 1080 and 6790", rules, &between(1080, 6790))?;
+    both(rt, "ports 0 and 6790", rules, &between(0, 6790))
 }
 
 // The whole record of document 01.
 fn whole_record(rt: &impl Print) -> io::Result<()> {
-    let rule = b"\0\x06\0\0\0\0\0\x0A\0\0\0\x08\0\0\xFF\xFF\x01\xF6\x01\xF7\0";
-    let mut table = [0u8; RECORD_SIZE];
-    compile_label(rt, b"the whole record")?;
-    compiled(rt, tables::compile(rule, &mut table))?;
-    say::text(rt, b"record: ")?;
-    hex(rt, &table)
+    let rule = Rule {
+        flag: 0,
+        proto: 6,
+        dst: 167772160,
+        dlen: 8,
+        dlow: 502,
+        dhigh: 503,
+        ..ANY
+    };
+    let mut table = [0; RECORD_SIZE];
+    print!(rt; "compile the whole record: ")?;
+    match tables::compile(&rule.to_bytes(), &mut table) {
+        Ok(words) => println!(rt; "{words} words")?,
+        Err(error) => println!(rt; "{}", Refused::from(error))?,
+    }
+    print!(rt; "record: ")?;
+    for byte in &table {
+        print!(rt; "{byte:02X}")?;
+    }
+    println!(rt)
 }
 
 // Rules of 900 words each: ports 1..65534 on both sides.
 fn wide_rules(rt: &impl Print) -> io::Result<()> {
-    let rules = b"\x01\0\0\0\0\0\0\0\0\0\0\0\0\x01\xFF\xFE\0\x01\xFF\xFE\0\
-        \x01\0\0\0\0\0\0\0\0\0\0\0\0\x01\xFF\xFE\0\x01\xFF\xFE\x01\
-        \x01\0\0\0\0\0\0\0\0\0\0\0\0\x01\xFF\xFE\0\x01\xFF\xFE\x02";
-    let ports = [17u8, 0, 0, 0, 0, 0, 0, 0, 0, 255, 254, 255, 254];
-    compile(rt, b"900 words", part(rules, RULE_SIZE))?;
-    compile(rt, b"1,800 words", part(rules, 2 * RULE_SIZE))?;
-    compile_find(
-        rt,
-        b"ports 65534 and 65534",
-        part(rules, 2 * RULE_SIZE),
-        &ports,
-    )?;
-    compile(rt, b"2,700 words", rules)?;
-    compile_in(
-        rt,
-        b"900 words, room for 900",
-        part(rules, RULE_SIZE),
-        900 * RECORD_SIZE,
-    )?;
-    compile_in(
-        rt,
-        b"900 words, room for 899",
-        part(rules, RULE_SIZE),
-        900 * RECORD_SIZE - 1,
-    )?;
-    Ok(())
+    let wide = Rule {
+        slow: 1,
+        shigh: 65534,
+        dlow: 1,
+        dhigh: 65534,
+        ..ANY
+    };
+    let denied = Rule { action: 1, ..wide };
+    let logged = Rule { action: 2, ..wide };
+    let list = [wide.to_bytes(), denied.to_bytes(), logged.to_bytes()];
+    let rules = list.as_flattened();
+    let one = &rules[..RULE_SIZE];
+    let two = &rules[..2 * RULE_SIZE];
+    let ports = Key {
+        proto: 17,
+        src: 0,
+        dst: 0,
+        sport: 65534,
+        dport: 65534,
+    };
+    compile(rt, "900 words", one)?;
+    compile(rt, "1,800 words", two)?;
+    compile_find(rt, "ports 65534 and 65534", two, &ports.to_bytes())?;
+    compile(rt, "2,700 words", rules)?;
+    compile_in(rt, "900 words, room for 900", one, 900 * RECORD_SIZE)?;
+    compile_in(rt, "900 words, room for 899", one, 900 * RECORD_SIZE - 1)
 }
 
 // No rules, and lengths around a rule's and a header's.
 fn lengths(rt: &impl Print) -> io::Result<()> {
-    let more = b"\x01\0\0\0\0\0\0\0\0\0\0\0\0\0\xFF\xFF\0\0\xFF\xFF\0\x01";
-    let header = [6u8, 0, 0, 0, 0, 0, 0, 0, 0, 0, 0, 0, 0];
-    compile(rt, b"no rules", part(more, 0))?;
-    both(rt, b"no rules", part(more, 0), &header)?;
-    compile(rt, b"20 bytes", part(more, RULE_SIZE - 1))?;
-    compile(rt, b"21 bytes", part(more, RULE_SIZE))?;
-    compile(rt, b"22 bytes", more)?;
-    by_rule(rt, b"20 bytes", part(more, RULE_SIZE - 1), &header)?;
+    let list = [ANY.to_bytes(), ANY.to_bytes()];
+    let rules = list.as_flattened();
+    let short = &rules[..RULE_SIZE - 1];
+    let one = &rules[..RULE_SIZE];
+    let header = header();
+    compile(rt, "no rules", &[])?;
+    both(rt, "no rules", &[], &header)?;
+    compile(rt, "20 bytes", short)?;
+    compile(rt, "21 bytes", one)?;
+    compile(rt, "22 bytes", &rules[..RULE_SIZE + 1])?;
+    by_rule(rt, "20 bytes", short, &header)?;
+    by_rule(rt, "a header of 12 bytes", one, &header[..12])?;
     by_rule(
         rt,
-        b"a header of 12 bytes",
-        part(more, RULE_SIZE),
-        part(&header, 12),
+        "a header of 12 bytes, 20 bytes of rules",
+        short,
+        &header[..12],
     )?;
-    by_rule(
-        rt,
-        b"a header of 12 bytes, 20 bytes of rules",
-        part(more, RULE_SIZE - 1),
-        part(&header, 12),
-    )?;
-    by_rule(
-        rt,
-        b"a header of 14 bytes",
-        part(more, RULE_SIZE),
-        part(more, 14),
-    )?;
-    by_rule(rt, b"a header of 13 bytes", part(more, RULE_SIZE), &header)
+    by_rule(rt, "a header of 14 bytes", one, &rules[..14])?;
+    by_rule(rt, "a header of 13 bytes", one, &header)
 }
 
-// Fills the list with copies of one rule.
-fn copies(rules: &mut [u8]) {
-    let one = any_rule();
-    let mut i: usize = 0;
-    while i < rules.len() {
-        rules[i] = one[i % RULE_SIZE];
-        i += 1;
-    }
-}
-
-fn set(s: &mut [u8], at: usize, x: u8) {
-    if at < s.len() {
-        s[at] = x;
-    }
-}
-
-// 257 rules, with two of their bytes set.
+// 257 rules, the first and the 256th with actions of their own.
 fn limits(rt: &impl Print, first: u8, last: u8) -> io::Result<()> {
-    let mut rules = [0u8; OVER];
-    let header = [6u8, 0, 0, 0, 0, 0, 0, 0, 0, 0, 0, 0, 0];
-    copies(&mut rules);
-    set(&mut rules, RULE_SIZE - 1, first);
-    set(&mut rules, LIST_BYTES - 1, last);
-    compile(rt, b"256 rules", part(&rules, LIST_BYTES))?;
-    compile(rt, b"257 rules", &rules)?;
-    by_rule(rt, b"256 rules", part(&rules, LIST_BYTES), &header)?;
-    by_rule(rt, b"257 rules", &rules, &header)
+    let mut list = [ANY.to_bytes(); OVER];
+    list[0] = Rule {
+        action: first,
+        ..ANY
+    }
+    .to_bytes();
+    list[RULE_LIMIT - 1] = Rule {
+        action: last,
+        ..ANY
+    }
+    .to_bytes();
+    let rules = list[..RULE_LIMIT].as_flattened();
+    let over = list.as_flattened();
+    let header = header();
+    compile(rt, "256 rules", rules)?;
+    compile(rt, "257 rules", over)?;
+    by_rule(rt, "256 rules", rules, &header)?;
+    by_rule(rt, "257 rules", over, &header)
 }
 
-// A table of two records: protocol 6 to 10.0.0.0/8 on port 502, permitted; anything, denied. Three of its bytes may be others.
-fn two_records(value: u8, first: u8, last: u8) -> [u8; TWO] {
-    let mut t = [0u8; TWO];
-    t[0] = 6;
-    t[1] = value;
-    t[5] = 10;
-    t[11] = 1;
-    t[12] = 246;
-    t[13] = 255;
-    t[18] = 255;
-    t[24] = 255;
-    t[25] = 255;
-    t[27] = first;
-    t[54] = 1;
-    t[55] = last;
-    t
+// A table of two records: protocol 6 to 10.0.0.0/8 on port 502, permitted; anything, denied. The first record's value may have
+// a source address, and both may have another action.
+fn two_records(src: u32, first: u8, last: u8) -> [[u8; RECORD_SIZE]; 2] {
+    let zeros = Key {
+        proto: 0,
+        src: 0,
+        dst: 0,
+        sport: 0,
+        dport: 0,
+    };
+    let port = Entry {
+        value: Key {
+            proto: 6,
+            src,
+            dst: 167772160,
+            sport: 0,
+            dport: 502,
+        },
+        mask: Key {
+            proto: 255,
+            src: 0,
+            dst: 4278190080,
+            sport: 0,
+            dport: 65535,
+        },
+        rule: 0,
+        action: first,
+    };
+    let any = Entry {
+        value: zeros,
+        mask: zeros,
+        rule: 1,
+        action: last,
+    };
+    [port.to_bytes(), any.to_bytes()]
+}
+
+// A header to 10.0.0.7 on port 502.
+fn to_seven(proto: u8) -> [u8; KEY_SIZE] {
+    let key = Key {
+        proto,
+        src: 0,
+        dst: 167772167,
+        sport: 0,
+        dport: 502,
+    };
+    key.to_bytes()
 }
 
 // Stated counts and headers.
 fn stated(rt: &impl Print) -> io::Result<()> {
-    let header = [6u8, 0, 0, 0, 0, 10, 0, 0, 7, 0, 0, 1, 246];
-    let other = [17u8, 0, 0, 0, 0, 10, 0, 0, 7, 0, 0, 1, 246, 0];
-    by_word(rt, b"the first record", &two_records(0, 0, 1), 2, &header)?;
+    let records = two_records(0, 0, 1);
+    let table = records.as_flattened();
+    let header = to_seven(6);
+    let other = to_seven(17);
+    let mut long = [0; 14];
+    long[..KEY_SIZE].copy_from_slice(&other);
+    by_word(rt, "the first record", table, 2, &header)?;
+    by_word(rt, "the second record", table, 2, &other)?;
+    by_word(rt, "one record counted", table, 1, &other)?;
+    by_word(rt, "no record counted", table, 0, &header)?;
+    by_word(rt, "three records counted", table, 3, &header)?;
     by_word(
         rt,
-        b"the second record",
-        &two_records(0, 0, 1),
-        2,
-        part(&other, 13),
-    )?;
-    by_word(
-        rt,
-        b"one record counted",
-        &two_records(0, 0, 1),
-        1,
-        part(&other, 13),
-    )?;
-    by_word(rt, b"no record counted", &two_records(0, 0, 1), 0, &header)?;
-    by_word(
-        rt,
-        b"three records counted",
-        &two_records(0, 0, 1),
-        3,
-        &header,
-    )?;
-    by_word(
-        rt,
-        b"two counted, 55 bytes",
-        part(&two_records(0, 0, 1), TWO - 1),
+        "two counted, 55 bytes",
+        &table[..2 * RECORD_SIZE - 1],
         2,
         &header,
     )?;
-    by_word(
-        rt,
-        b"a header of 12 bytes",
-        &two_records(0, 0, 1),
-        2,
-        part(&header, 12),
-    )?;
-    by_word(
-        rt,
-        b"a header of 14 bytes",
-        &two_records(0, 0, 1),
-        2,
-        &other,
-    )
+    by_word(rt, "a header of 12 bytes", table, 2, &header[..12])?;
+    by_word(rt, "a header of 14 bytes", table, 2, &long)
 }
 
 // Ill-formed records, first and last.
 fn ill(rt: &impl Print) -> io::Result<()> {
-    let header = [6u8, 0, 0, 0, 0, 10, 0, 0, 7, 0, 0, 1, 246];
+    let header = to_seven(6);
+    let first = two_records(0, 4, 1);
+    let both = two_records(0, 4, 4);
+    let last = two_records(0, 0, 4);
+    let outside = two_records(16777216, 0, 1);
     by_word(
         rt,
-        b"action 4 in the first record, a short header",
-        &two_records(0, 4, 1),
+        "action 4 in the first record, a short header",
+        first.as_flattened(),
         2,
-        part(&header, 12),
+        &header[..12],
     )?;
     by_word(
         rt,
-        b"action 4 in both records",
-        &two_records(0, 4, 4),
-        2,
-        &header,
-    )?;
-    by_word(
-        rt,
-        b"action 4 in the last record",
-        &two_records(0, 0, 4),
+        "action 4 in both records",
+        both.as_flattened(),
         2,
         &header,
     )?;
     by_word(
         rt,
-        b"action 4 behind the counted records",
-        &two_records(0, 0, 4),
+        "action 4 in the last record",
+        last.as_flattened(),
+        2,
+        &header,
+    )?;
+    by_word(
+        rt,
+        "action 4 behind the counted records",
+        last.as_flattened(),
         1,
         &header,
     )?;
     by_word(
         rt,
-        b"a value bit outside the first mask",
-        &two_records(1, 0, 1),
+        "a value bit outside the first mask",
+        outside.as_flattened(),
         2,
         &header,
-    )?;
-    Ok(())
+    )
 }
 
 pub fn run(rt: &impl Print) -> io::Result<()> {

@@ -2,10 +2,9 @@
 // has the papers' figures; where theorem 4.1 leaves the whole width out, it counts, as document 01 says.
 #![tactic(auto)]
 
-mod exact;
+mod decimals;
 mod open;
 mod ports;
-mod say;
 mod symbols;
 mod tallies;
 mod widths;
@@ -14,10 +13,10 @@ use std::io;
 
 fn main(rt: HostRuntime) -> io::Result<()> {
     let all = tallies::all();
-    widths::counts(&rt, all)?;
+    widths::counts(&rt, &all)?;
     open::run(&rt)?;
-    widths::means(&rt, all)?;
-    widths::shares(&rt, all)?;
+    widths::means(&rt, &all)?;
+    widths::shares(&rt, &all)?;
     ports::run(&rt)?;
     symbols::run(&rt)
 }

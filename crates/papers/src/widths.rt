@@ -1,129 +1,93 @@
 // What source document 000 says of all intervals of a width: theorem 4.1, table 4 and table 5.
+use crate::decimals::Decimal;
 use crate::tallies::{Sums, Tally};
-use crate::{exact, say};
 use std::io;
 
-fn item(rt: &impl Print, x: u64) -> io::Result<()> {
-    say::text(rt, b" ")?;
-    say::number(rt, x)
+// How many intervals of a width have 1, 2, .. words.
+fn count_line(rt: &impl Print, n: usize, tally: &Tally) -> io::Result<()> {
+    print!(rt; "n = {n}:")?;
+    for k in tally.having.iter().take(tally.most() + 1).skip(1) {
+        print!(rt; " {k}")?;
+    }
+    println!(rt)
 }
 
-// How many intervals have 1, 2, .. words.
-fn items(rt: &impl Print, tally: Tally) -> io::Result<()> {
-    let most = tally.most();
-    for t in 1..32 {
-        if t <= most {
-            item(rt, tally.having[t])?;
+pub fn counts(rt: &impl Print, all: &[Tally; 13]) -> io::Result<()> {
+    println!(rt; "source document 000, theorem 4.1: how many intervals of width n have 1, 2, .. words")?;
+    for n in 1..11 {
+        count_line(rt, n, &all[n])?;
+    }
+    Ok(())
+}
+
+pub fn means(rt: &impl Print, all: &[Tally; 13]) -> io::Result<()> {
+    println!(rt; "source document 000, table 4: n, how many intervals, their mean number of words")?;
+    for n in 4..13 {
+        let sums = all[n].sums();
+        let mean = Decimal::ratio(sums.words, sums.intervals);
+        println!(rt; "{n} {} {mean}", sums.intervals)?;
+    }
+    Ok(())
+}
+
+// How far t words lie above the mean, its square, and the variance, all multiplied until they are whole: the first by the
+// number of intervals, the other two by that number's square.
+#[derive(Clone, Copy)]
+struct Spread {
+    above: u64,
+    square: u64,
+    variance: u64,
+}
+
+impl Spread {
+    fn of(sums: Sums, t: u64) -> Spread {
+        let above = t
+            .saturating_mul(sums.intervals)
+            .saturating_sub(sums.words);
+        let whole = sums.intervals.saturating_mul(sums.squares);
+        Spread {
+            above,
+            square: above.saturating_mul(above),
+            variance: whole.saturating_sub(sums.words.saturating_mul(sums.words)),
         }
     }
-    say::end(rt)
 }
 
-fn count_line(rt: &impl Print, n: usize, tally: Tally) -> io::Result<()> {
-    say::text(rt, b"n = ")?;
-    say::number(rt, n as u64)?;
-    say::text(rt, b":")?;
-    items(rt, tally)
-}
-
-pub fn counts(rt: &impl Print, all: [Tally; 13]) -> io::Result<()> {
-    say::text(
-        rt,
-        b"source document 000, theorem 4.1: how many intervals of width n have 1, 2, .. words\n",
-    )?;
-    for n in 1..11 {
-        count_line(rt, n, all[n])?;
-    }
-    Ok(())
-}
-
-fn mean_line(rt: &impl Print, n: usize, s: Sums) -> io::Result<()> {
-    say::number(rt, n as u64)?;
-    item(rt, s.intervals)?;
-    say::text(rt, b" ")?;
-    say::decimals(
-        rt,
-        exact::nearest(exact::product(s.words, 100000), s.intervals),
-    )?;
-    say::end(rt)
-}
-
-pub fn means(rt: &impl Print, all: [Tally; 13]) -> io::Result<()> {
-    say::text(
-        rt,
-        b"source document 000, table 4: n, how many intervals, their mean number of words\n",
-    )?;
-    for n in 4..13 {
-        mean_line(rt, n, all[n].sums())?;
-    }
-    Ok(())
-}
-
-// What table 5 adds to the mean.
-#[derive(Clone, Copy)]
-enum Limit {
-    OneDeviation,
-    TwoDeviations,
-    Variance,
-}
-
-// t words are at least the mean and the limit's part. Both sides are multiplied until they are whole: what t has above the
-// mean by the number of intervals, its square and the variance by that number's square.
-fn reached(s: Sums, t: u64, limit: Limit) -> bool {
-    let above = exact::difference(exact::product(t, s.intervals), s.words);
-    let square = exact::product(above, above);
-    let variance = exact::difference(
-        exact::product(s.intervals, s.squares),
-        exact::product(s.words, s.words),
-    );
-    match limit {
-        Limit::OneDeviation => variance <= square,
-        Limit::TwoDeviations => exact::product(4, variance) <= square,
-        Limit::Variance => variance <= exact::product(s.intervals, above),
-    }
-}
-
-// How many intervals have at most so many words. Table 5 rounds the limit up, so the first t that reaches it counts too.
-fn within(tally: Tally, s: Sums, limit: Limit) -> u64 {
+// How many intervals have at most so many words as a limit allows. Table 5 rounds the limit up, so the first number of words
+// that reaches it counts too.
+fn within<F: Fn(Spread) -> bool>(tally: &Tally, sums: Sums, reached: F) -> u64
+    requires { F.IsAlwaysCallable reached }
+{
     let mut found: u64 = 0;
-    for t in 0..32 {
-        found = exact::sum(found, tally.having[t]);
-        if reached(s, t as u64, limit) {
+    for (t, k) in tally.having.iter().enumerate() {
+        found = found.saturating_add(*k);
+        if reached(Spread::of(sums, t as u64)) {
             return found;
         }
     }
     found
 }
 
-// Those of all intervals, in percent.
-fn share(rt: &impl Print, tally: Tally, s: Sums, limit: Limit) -> io::Result<()> {
-    say::text(rt, b" ")?;
-    say::decimals(
-        rt,
-        exact::nearest(
-            exact::product(within(tally, s, limit), 10000000),
-            s.intervals,
-        ),
-    )?;
-    say::text(rt, b"%")
+// The intervals with at most the mean and one deviation, two deviations, and the variance, in percent.
+fn share_line(rt: &impl Print, n: usize, tally: &Tally) -> io::Result<()> {
+    let sums = tally.sums();
+    let intervals = sums.intervals;
+    let one = within(tally, sums, |s| s.variance <= s.square);
+    let two = within(tally, sums, |s| s.variance.saturating_mul(4) <= s.square);
+    let variance = within(tally, sums, |s| {
+        s.variance <= s.above.saturating_mul(intervals)
+    });
+    print!(rt; "{n}")?;
+    for share in [one, two, variance] {
+        print!(rt; " {}%", Decimal::ratio(share.saturating_mul(100), intervals))?;
+    }
+    println!(rt)
 }
 
-fn share_line(rt: &impl Print, n: usize, tally: Tally) -> io::Result<()> {
-    let s = tally.sums();
-    say::number(rt, n as u64)?;
-    share(rt, tally, s, Limit::OneDeviation)?;
-    share(rt, tally, s, Limit::TwoDeviations)?;
-    share(rt, tally, s, Limit::Variance)?;
-    say::end(rt)
-}
-
-pub fn shares(rt: &impl Print, all: [Tally; 13]) -> io::Result<()> {
-    say::text(
-        rt,
-        b"source document 000, table 5: n, intervals with at most the mean and one, two deviations, the variance\n",
-    )?;
+pub fn shares(rt: &impl Print, all: &[Tally; 13]) -> io::Result<()> {
+    println!(rt; "source document 000, table 5: n, intervals with at most the mean and one, two deviations, the variance")?;
     for n in 8..13 {
-        share_line(rt, n, all[n])?;
+        share_line(rt, n, &all[n])?;
     }
     Ok(())
 }
