@@ -84,11 +84,7 @@ fn bad_field(r: Rule) -> Option<Field>
     None
 }
 
-#[tactic(
-    auto,
-    using(records::proofs::Chunks::rules_chunks),
-    unfolding(crate::specs::Faults::tested_rules, crate::specs::Faults::first_bad)
-)]
+#[tactic(auto, using(records::proofs::Chunks::rules_chunks), unfolding(crate::specs::Faults::tested_rules, crate::specs::Faults::first_bad))]
 pub fn test_rules(rules: &[u8]) -> Result<RuleList<'_>, ListFault>
     ensures says { tested_as result ≡ tested_rules rules.now }
     ensures holds { IfOk result (λ list. rules_in list.records.now ≡ all_rules rules.now) }
