@@ -75,6 +75,7 @@ good_next i r rs e = go (eqb (bad_field r) 0) refl e
 pub fine_at : (records : List (List ℕ)) → NoneBad records → (i : ℕ) → i < length records → Fine (rule_at (get_or records i []))
 fine_at records g i h = fine (rule_at (get_or records i [])) (g i h)
 
+-- a list whose test is passed has no bad rule, and the other way round
 pub none_bad : (j : ℕ) (records : List (List ℕ)) → first_bad j (rules_in records) ≡ Ok tt → NoneBad records
 none_bad j [] e i h = absurd (omega arith)
 none_bad j (s ∷ ss) e zero h = (good_next j (rule_at s) (rules_in ss) e).0

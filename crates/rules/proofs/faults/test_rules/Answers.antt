@@ -10,6 +10,7 @@ use Rattle.rules.proofs.Testing.{bad_here, bad_past, tested_records}
 use Rattle.rules.proofs.faults.test_rules.Goals as goal
 use Rattle.rules.proofs.faults.test_rules.Goals.{Else-not-is_empty}
 
+-- past the first test the length is a multiple of a rule's
 whole : (c : Else-not-is_empty) → length c.args.rules.now % rule_size ≡ 0
 whole c = omega (arith, eqb-true _ _ (sym c.is_empty.ensures ∙ c.if-not-is_empty.false))
 
