@@ -18,7 +18,7 @@ pub struct Words {
 impl Words {
     ghost use Rattle.blocks.specs.Walked.{WordsOf};
 
-    pub fn from_low(interval: Interval) -> Words
+    pub(crate) fn from_low(interval: Interval) -> Words
         ensures { WordsOf interval.width interval.low interval.high result }
     {
         Words {

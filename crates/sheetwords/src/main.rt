@@ -2,16 +2,16 @@
 // sheet is refused (document 02, order 1). What is read, compiled and written as text is the library's work.
 #![tactic(auto)]
 
-ghost use Rattle.std.specs.Prelude.{◌*◌, ◌-◌, ◌≤◌, IfOk, length};
-ghost use Rattle.records.specs.Layout.{record_size, word_limit};
-ghost use Rattle.sheetwords.specs.Pieces.{piece_size};
-ghost use Rattle.texts.specs.Lines.{line_size};
+ghost use Rattle.std.specs.Prelude.{IfOk, ◌≤◌, length};
+ghost use Rattle.records.specs.Layout.{word_limit};
 
 use answers::Answer;
+use arrayvec::ArrayVec;
 use records::{LIST_BYTES, RECORD_SIZE, RULE_SIZE, TABLE_BYTES};
 use sheets::SHEET_LIMIT;
 use std::io;
 use std::io::Read;
+use tablet::ToAnswer;
 use texts::LINE_SIZE;
 
 // Bytes of output that are gathered before they are written.
@@ -19,79 +19,51 @@ const PIECE: usize = 65536;
 // Bytes that are read: one more than a sheet may have, so that a longer one is seen to be.
 const READ: usize = SHEET_LIMIT + 1;
 
-fn text(rt: &impl Print, s: &[u8]) -> io::Result<()> {
-    rt.write_all(s)
+fn refused(rt: &impl Print, why: impl ToAnswer) -> io::Result<()> {
+    let Answer { no, a, b, .. } = why.answer();
+    println!(rt; "refused\t{no}\t{a}\t{b}")
 }
 
-fn number(rt: &impl Print, x: u32) -> io::Result<()> {
-    rt.print(x)
-}
-
-fn refused(rt: &impl Print, r: Answer) -> io::Result<()> {
-    text(rt, b"refused\t")?;
-    number(rt, r.no)?;
-    text(rt, b"\t")?;
-    number(rt, r.a)?;
-    text(rt, b"\t")?;
-    number(rt, r.b)?;
-    text(rt, b"\n")
-}
-
-fn counted(rt: &impl Print, k: u32) -> io::Result<()> {
-    text(rt, b"words\t")?;
-    number(rt, k)?;
-    text(rt, b"\n")
-}
-
-// Writes what is gathered where another line might not fit behind it; the place for that line.
-fn placed(rt: &impl Print, out: &[u8], at: usize) -> io::Result<usize>
-    requires { at ≤ length out.now }
-    ensures { IfOk result (λ to. to ≤ piece_size - line_size) }
+// The lines of the records, gathered into large pieces.
+fn print_words(rt: &impl Print, records: &[[u8; RECORD_SIZE]]) -> io::Result<()>
+    requires { length records.now ≤ word_limit }
 {
-    if PIECE - LINE_SIZE < at {
-        text(rt, &out[..at])?;
-        return Ok(0);
+    let mut piece = ArrayVec::<u8, PIECE>::new();
+    for (i, record) in records.iter().enumerate() {
+        let mut line = [0; LINE_SIZE];
+        let end = texts::put_word(&mut line, 0, i as u32, record);
+        if piece.remaining_capacity() < LINE_SIZE {
+            rt.write_all(piece.as_slice())?;
+            piece.clear();
+        }
+        let _ = piece.try_extend_from_slice(&line[..end]);
     }
-    Ok(at)
-}
-
-// The lines of the table's first k records, gathered into large pieces.
-fn print_words(rt: &impl Print, table: &[u8], k: u32) -> io::Result<()>
-    requires { (k ≤ word_limit) × (record_size * word_limit ≤ length table.now) }
-{
-    let mut out = [0u8; PIECE];
-    let mut at: usize = 0;
-    let mut from: usize = 0;
-    let mut i: u32 = 0;
-    while i < k {
-        let to = placed(rt, &out, at)?;
-        at = texts::put_word(&mut out, to, i, &table[from..]);
-        from += RECORD_SIZE;
-        i += 1;
-    }
-    text(rt, &out[..at])
+    rt.write_all(piece.as_slice())
 }
 
 // Compiles the rules into a table with room for as many words as there may be.
 fn print_rules(rt: &impl Print, rules: &[u8]) -> io::Result<()> {
-    let mut table = [0u8; TABLE_BYTES];
-    let r = tablet::ashkavorz_compile(rules, &mut table);
-    if r.no != 0 {
-        return refused(rt, r);
+    let mut table = [0; TABLE_BYTES];
+    match tables::compile(rules, &mut table) {
+        Ok(words) => {
+            let (records, _) = table.as_chunks::<RECORD_SIZE>();
+            print_words(rt, &records[..words as usize])?;
+            println!(rt; "words\t{words}")
+        }
+        Err(error) => refused(rt, error),
     }
-    print_words(rt, &table, r.a)?;
-    counted(rt, r.a)
 }
 
 // Reads a sheet into room for as many rules as there may be.
 fn print_sheet(rt: &impl Print, sheet: &[u8]) -> io::Result<()> {
-    let mut rules = [0u8; LIST_BYTES];
-    let r = tablet::ashkavorz_read_sheet(sheet, &mut rules);
-    if r.no != 0 {
-        return refused(rt, r);
+    let mut rules = [0; LIST_BYTES];
+    match sheets::read(sheet, &mut rules) {
+        Ok(count) => {
+            let end = RULE_SIZE * (count as usize);
+            print_rules(rt, &rules[..end])
+        }
+        Err(error) => refused(rt, error),
     }
-    let end = RULE_SIZE * (r.a as usize);
-    print_rules(rt, &rules[..end])
 }
 
 // Reads until the buffer is full or the input ends; how many bytes were read.
@@ -110,7 +82,7 @@ fn read_full<R: Read>(input: &mut R, sheet: &mut [u8]) -> io::Result<usize>
 }
 
 fn main(rt: HostRuntime) -> io::Result<()> {
-    let mut sheet = [0u8; READ];
+    let mut sheet = [0; READ];
     let mut input = rt.reader();
     let n = read_full(&mut input, &mut sheet)?;
     print_sheet(&rt, &sheet[..n])

@@ -16,7 +16,8 @@ ghost use Rattle.tables.specs.Looking.{looking};
 ghost use Rattle.tablet.specs.Faces.{in32, step_face};
 
 use answers::Answer;
-use convert::{ToAnswer, Verdict};
+pub use convert::ToAnswer;
+use convert::Verdict;
 pub use steps::{Step, Walk};
 
 pub fn ashkavorz_close(width: u32, a: i32, b: i32) -> Answer
