@@ -2,7 +2,8 @@
 // sheet is refused (document 02, order 1). What is read, compiled and written as text is the library's work.
 #![tactic(auto)]
 
-ghost use Rattle.std.specs.Prelude.{IfOk, ◌≤◌, length};
+ghost use Rattle.std.specs.Prelude.{IfOk, OnOk, ◌+◌, ◌≤◌, length};
+ghost use Rattle.arrayvec.specs.ArrayVec.{array_vec_len};
 ghost use Rattle.records.specs.Layout.{word_limit};
 
 use answers::Answer;
@@ -24,6 +25,17 @@ fn refused(rt: &impl Print, why: impl ToAnswer) -> io::Result<()> {
     println!(rt; "refused\t{no}\t{a}\t{b}")
 }
 
+// Writes what is gathered where another line might not fit behind it.
+fn make_room(rt: &impl Print, piece: &mut ArrayVec<u8, PIECE>) -> io::Result<()>
+    ensures { OnOk result (array_vec_len piece.new + LINE_SIZE ≤ PIECE) }
+{
+    if piece.remaining_capacity() < LINE_SIZE {
+        rt.write_all(piece.as_slice())?;
+        piece.clear();
+    }
+    Ok(())
+}
+
 // The lines of the records, gathered into large pieces.
 fn print_words(rt: &impl Print, records: &[[u8; RECORD_SIZE]]) -> io::Result<()>
     requires { length records.now ≤ word_limit }
@@ -32,11 +44,8 @@ fn print_words(rt: &impl Print, records: &[[u8; RECORD_SIZE]]) -> io::Result<()>
     for (i, record) in records.iter().enumerate() {
         let mut line = [0; LINE_SIZE];
         let end = texts::put_word(&mut line, 0, i as u32, record);
-        if piece.remaining_capacity() < LINE_SIZE {
-            rt.write_all(piece.as_slice())?;
-            piece.clear();
-        }
-        let _ = piece.try_extend_from_slice(&line[..end]);
+        make_room(rt, &mut piece)?;
+        piece.try_extend_from_slice(&line[..end]).unwrap();
     }
     rt.write_all(piece.as_slice())
 }
