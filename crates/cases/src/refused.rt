@@ -6,6 +6,7 @@ use std::fmt;
 use tables::{CompileError, LookError};
 
 // "refused 3", "refused 4 with 6", "refused 7 with 0, 9"
+#[derive(Clone, Copy, Debug)]
 pub enum Refused {
     Plain(Refusal),
     With(Refusal, usize),

@@ -2,6 +2,7 @@
 use std::fmt;
 
 // A number of hundred-thousandths.
+#[derive(Clone, Copy)]
 pub struct Decimal(u64);
 
 impl Decimal {
