@@ -51,31 +51,33 @@ impl From<intervals::Walk> for Walk {
     }
 }
 
-// The step of the walk w that has this outcome.
-pub fn stepped(w: Walk, outcome: Result<Option<intervals::Step>, Fault>) -> Step
-    ensures { result ≡ face_of w (stepped_as (handed_in w) outcome) }
-{
-    match outcome {
-        Ok(Some(step)) => Step {
-            no: 0,
-            given: 1,
-            value: u32::from(step.word.value),
-            mask: u32::from(step.word.mask),
-            walk: step.walk.into(),
-        },
-        Ok(None) => Step {
-            no: 0,
-            given: 0,
-            value: 0,
-            mask: 0,
-            walk: w,
-        },
-        Err(fault) => Step {
-            no: why(fault).into(),
-            given: 0,
-            value: 0,
-            mask: 0,
-            walk: w,
-        },
+impl Step {
+    // The step of the walk w that has this outcome.
+    pub fn of(w: Walk, outcome: Result<Option<intervals::Step>, Fault>) -> Step
+        ensures { result ≡ face_of w (stepped_as (handed_in w) outcome) }
+    {
+        match outcome {
+            Ok(Some(step)) => Step {
+                no: 0,
+                given: 1,
+                value: u32::from(step.word.value),
+                mask: u32::from(step.word.mask),
+                walk: step.walk.into(),
+            },
+            Ok(None) => Step {
+                no: 0,
+                given: 0,
+                value: 0,
+                mask: 0,
+                walk: w,
+            },
+            Err(fault) => Step {
+                no: why(fault).into(),
+                given: 0,
+                value: 0,
+                mask: 0,
+                walk: w,
+            },
+        }
     }
 }
