@@ -14,16 +14,16 @@ fn count_line(rt: &impl Print, n: usize, tally: &Tally) -> io::Result<()> {
 
 pub fn counts(rt: &impl Print, all: &[Tally; 13]) -> io::Result<()> {
     println!(rt; "source document 000, theorem 4.1: how many intervals of width n have 1, 2, .. words")?;
-    for n in 1..11 {
-        count_line(rt, n, &all[n])?;
+    for (n, tally) in all.iter().enumerate().take(11).skip(1) {
+        count_line(rt, n, tally)?;
     }
     Ok(())
 }
 
 pub fn means(rt: &impl Print, all: &[Tally; 13]) -> io::Result<()> {
     println!(rt; "source document 000, table 4: n, how many intervals, their mean number of words")?;
-    for n in 4..13 {
-        let sums = all[n].sums();
+    for (n, tally) in all.iter().enumerate().skip(4) {
+        let sums = tally.sums();
         let mean = Decimal::ratio(sums.words, sums.intervals);
         println!(rt; "{n} {} {mean}", sums.intervals)?;
     }
@@ -86,8 +86,8 @@ fn share_line(rt: &impl Print, n: usize, tally: &Tally) -> io::Result<()> {
 
 pub fn shares(rt: &impl Print, all: &[Tally; 13]) -> io::Result<()> {
     println!(rt; "source document 000, table 5: n, intervals with at most the mean and one, two deviations, the variance")?;
-    for n in 8..13 {
-        share_line(rt, n, &all[n])?;
+    for (n, tally) in all.iter().enumerate().skip(8) {
+        share_line(rt, n, tally)?;
     }
     Ok(())
 }
