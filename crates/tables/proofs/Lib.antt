@@ -1,6 +1,5 @@
-pub mod Totals
 pub mod Filling
-pub mod Promises
+pub mod Chunked
 pub mod Gathering
 pub mod Scanning
 pub mod Indices

@@ -4,7 +4,7 @@ use Rattle.fields.specs.Writes.{write_at}
 use Rattle.records.specs.Entries.{entry_bytes}
 use Rattle.records.specs.declared.Entry.{Entry}
 use Rattle.entries.specs.Words.{each, ported_entry}
-use Rattle.entries.proofs.Left.{left_start, left_more, left_end}
+use Rattle.entries.proofs.Left.{left_start, left_one, left_end}
 use Rattle.entries.proofs.RuleCounts.{row, rule_rows, port_words}
 use Rattle.entries.proofs.put_rule.Goals as goal
 
@@ -22,7 +22,7 @@ loop-dest-init c =
 pub loop-dest-preserved : goal.loop-dest-preserved
 loop-dest-preserved c =
     let ported = c.ported.ensures ∙ ap (λ (e : Entry). ported_entry e c.in-Some.source c.in-Some-dest.dest) c.unported-entry.ensures in
-    left_more _ _ _ _ _ _ (rw c.in-Some-dest.ensures.steps at c.loop-dest.invariant) _
+    left_one _ _ _ _ _ _ (rw c.in-Some-dest.ensures.steps at c.loop-dest.invariant) _
     (c.put.ensures ∙ ap (write_at c.loop-dest.t c.loop-dest.free) (c.to_bytes.ensures ∙ ap entry_bytes ported))
 
 pub returns : goal.returns
