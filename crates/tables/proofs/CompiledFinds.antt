@@ -10,9 +10,9 @@ use native.Mathlib.Omega.{arith}
 use lib.Dec.{eqb, ltb}
 use lib.ListN.{drop, length}
 use lib.Seq.{get_or-drop}
-use borrow.Author.Tests.{eqb-false, eqb-true, le-ltb, lt-ltb}
+use borrow.Author.Tests.{eqb-true, le-ltb, lt-ltb}
 use Rattle.answers.proofs.Lending.{left_done}
-use Rattle.answers.specs.Answers.{done, refused}
+use Rattle.answers.specs.Answers.{behind_ill, done, refused}
 use Rattle.answers.specs.Refusals as refusal
 use Rattle.answers.specs.declared.Answer.{Answer}
 use Rattle.bits.proofs.Orders.{le_or_lt}
@@ -41,7 +41,6 @@ use Rattle.tables.specs.declared.finding.Found.{Found}
 use Rattle.tables.specs.declared.finding.LookError.{LookError}
 use Rattle.tables.proofs.Demand2.{table_finds}
 use Rattle.tables.proofs.FormedTable.{compiled_formed}
-use Rattle.tables.proofs.Scanning.{formed_header, formed_found, looking_found}
 
 -- ---- a well-formed list
 
@@ -126,7 +125,8 @@ module _ (l before : List ℕ) (bl : Bytes l) (r : Answer) (t : List ℕ) (c : C
   never_ill = rw (count, ← length_is, written) (compiled_formed 0 (all_rules l) sound 0 rest)
 
   looked : (h : List ℕ) → looking t r.a h ≡ looking_formed t r.a h
-  looked h = looking_found t r.a h never_stated never_ill
+  unfolding looking behind_ill
+  looked h = rw (le-ltb (room_of (length t)) r.a never_stated, never_ill)
 
   -- the rule list's answer, as the list is well formed
   read : (h : List ℕ) → rule.finding l h ≡ rule.finding_good l h
@@ -135,19 +135,20 @@ module _ (l before : List ℕ) (bl : Bytes l) (r : Answer) (t : List ℕ) (c : C
 
   -- the one equation: whatever the header, the table's answer without the record's index is the rule list's answer
   pub finds_same : (h : List ℕ) → Bytes h → forget (looking t r.a h) ≡ rule.finding l h
-  unfolding rule.finding_good entries
+  unfolding rule.finding_good looking_formed entries
   finds_same h bh = go (eqb (length h) key_size) refl
     where
       go : (b : Bool) → eqb (length h) key_size ≡ b → forget (looking t r.a h) ≡ rule.finding l h
       go true e =
           let z : length h ≡ key_size = eqb-true (length h) key_size e in
-          ap forget (looked h ∙ formed_found t r.a h z)
+          let f : looking_formed t r.a h ≡ first_record r.a 0 t h = simp e in
+          ap forget (looked h ∙ f)
           ∙ ap forget (ap₂ (λ (k : ℕ) (u : List ℕ). first_record k 0 u h) (count ∙ sym length_is) written)
           ∙ table_finds (all_rules l) sound h z bh rest
           ∙ sym (read h ∙ simp e)
       go false e =
-          ap forget (looked h ∙ sym (formed_header t r.a h (eqb-false (length h) key_size e)))
-          ∙ sym (read h ∙ simp e)
+          let f : looking_formed t r.a h ≡ refused refusal.header 0 0 = simp e in
+          ap forget (looked h ∙ f) ∙ sym (read h ∙ simp e)
 
 -- and so it is of what the calls return: where `compile` returns k words, `find_word` finds what `find_rule` finds
 pub calls_agree : (l before : List ℕ) → Bytes l → (k : ℕ) (t : List ℕ) → Compiling l before (compiled_as (Ok k)) t

@@ -1,7 +1,6 @@
 pub mod Filling
 pub mod Chunked
 pub mod Gathering
-pub mod Scanning
 pub mod Indices
 pub mod Any
 pub mod Parts

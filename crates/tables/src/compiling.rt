@@ -57,7 +57,7 @@ pub fn room(bytes: usize) -> usize
 }
 
 // Compiles where there is room, and answers how many words the table has.
-#[tactic(auto, using(rules::proofs::Settled::fault_some), unfolding(crate::specs::Compiling::compiling, rules::specs::Faults::behind_rules, answers::specs::Lent::left_by))]
+#[tactic(auto, unfolding(crate::specs::Compiling::compiling, rules::specs::Faults::behind_rules, answers::specs::Lent::left_by))]
 pub fn compile(rules: &[u8], table: &mut [u8]) -> Result<u32, CompileError>
     ensures { Compiling rules.now table.old (compiled_as result) table.new }
 {
