@@ -1,62 +1,62 @@
 -- A rule has as many records as it has source port words times destination port words, whatever its number, and those are
 -- 30 at most each. Assumes nothing.
-use mathlib.Core.List.{List, [], ◌∷◌}
-use mathlib.Core.Path.{◌≡◌, refl, sym, ap, ap₂, ◌∙◌}
-use Prim.Native.Nat.{ℕ, suc, ◌+◌, ◌*◌, ◌≤◌}
+use mathlib.Core.List.{List, [], ◌∷◌, append-nil, map}
+use mathlib.Core.Path.{◌≡◌, sym, ap, ap₂, ◌∙◌}
+use Prim.Native.Nat.{ℕ, ◌+◌, ◌*◌, ◌≤◌}
 use native.Mathlib.Nat.{mul-le-mul}
 use native.Mathlib.Omega.{arith}
 use lib.ListN.{length, length-append, length-map}
-use Rattle.blocks.specs.Blocks.{blocks_of, prefix_of, words_of}
+use Rattle.blocks.specs.Blocks.{words_of}
 use Rattle.blocks.specs.Counting.{count_of}
+use Rattle.blocks.specs.declared.intervals.Interval.{Interval}
 use Rattle.blocks.specs.declared.Word.{Word}
-use Rattle.blocks.proofs.Counts.{count_most}
-use Rattle.blocks.proofs.Lengths.{count_tiles}
-use Rattle.fields.specs.Bytes.{Half}
-use Rattle.records.specs.declared.Key.{Key}
+use Rattle.blocks.proofs.Walking.{words_counted, words_few}
+use Rattle.records.specs.declared.Entry.{Entry}
 use Rattle.records.specs.declared.Rule.{Rule}
-use Rattle.entries.specs.Words.{Good, WordCount, dest_words, port_row, port_rows, rule_entries, source_words}
-use Rattle.entries.proofs.RuleRows.{rule_rows}
+use Rattle.entries.specs.Words.{WordCount, dest_words, each, entry_with, proto_word, proto_words, rule_entries, source_words}
+use Rattle.entries.specs.Written.{PortsOf}
 
--- ---- a rule's records
+-- the records of a source word
+abbrev pub row : Rule → ℕ → Word → List Entry
+row r i s = map (entry_with r i (proto_word r) s) (dest_words r)
 
-length_row : (v m : Key) (r : Rule) (i : ℕ) (ds : List Word) → length (port_row v m r i ds) ≡ length ds
-unfolding port_row
-length_row v m r i [] = refl
-length_row v m r i (d ∷ ds) = ap suc (length_row v m r i ds)
+-- there is one protocol word, and it gets the records of all source words
+pub rule_rows : (r : Rule) (i : ℕ) → rule_entries i r ≡ each (source_words r) (row r i)
+unfolding rule_entries proto_words each
+rule_rows r i = append-nil (each (source_words r) (row r i))
 
-length_rows : (v m : Key) (r : Rule) (i : ℕ) (ss : List Word) → length (port_rows v m r i ss) ≡ length ss * length (dest_words r)
-unfolding port_rows
-length_rows v m r i [] = omega arith
-length_rows v m r i (s ∷ ss) =
-    length-append (port_row _ _ r i (dest_words r)) (port_rows v m r i ss)
-    ∙ ap₂ (λ (x y : ℕ). x + y) (length_row _ _ r i (dest_words r)) (length_rows v m r i ss)
-    ∙ more (length ss) (length (dest_words r))
-  where
-    more : (x y : ℕ) → y + x * y ≡ suc x * y
-    more x y = omega arith
+-- lists of one length, joined
+length_each : {A B : Type 0} (f : A → List B) (k : ℕ) → ((x : A) → length (f x) ≡ k) → (xs : List A) → length (each xs f) ≡ length xs * k
+unfolding each
+length_each f k h [] = omega arith
+length_each f k h (x ∷ xs) = length-append (f x) (each xs f) ∙ ap₂ (λ (a b : ℕ). a + b) (h x) (length_each f k h xs) ∙ omega arith
 
 rule_product : (i : ℕ) (r : Rule) → length (rule_entries i r) ≡ length (source_words r) * length (dest_words r)
-rule_product i r = ap length (rule_rows r i) ∙ length_rows _ _ r i (source_words r)
+rule_product i r =
+    ap length (rule_rows r i)
+    ∙ length_each (row r i) (length (dest_words r)) (λ (s : Word). length-map (dest_words r) (entry_with r i (proto_word r) s)) (source_words r)
 
 -- the number does not count
 pub length_rule : (i j : ℕ) (r : Rule) → length (rule_entries i r) ≡ length (rule_entries j r)
 length_rule i j r = rule_product i r ∙ sym (rule_product j r)
 
--- ---- a port's words, of whose interval the code has widened both ends
+-- ---- a port's words
 
-module _ (low high a b k : ℕ) (h : low ≤ high) (p : Half low a) (q : Half high b) (e : k ≡ count_of 16 a b) where
-  port_count : k ≡ length (words_of 16 low high)
-  port_count =
-      e ∙ ap₂ (count_of 16) p.is q.is ∙ count_tiles 16 low high h (omega (arith, q.is, q.small))
-      ∙ sym (length-map (blocks_of 16 low high) (prefix_of 16))
+module _ (low high : ℕ) (p : Interval) (o : PortsOf low high p) where
+  -- they are those of the interval that the code makes
+  pub port_words : words_of p.width p.low p.high ≡ words_of 16 low high
+  port_words = rw (o.width, o.first, o.last)
 
-  port_most : k ≤ 30
-  port_most = omega (arith, e, count_most 16 a b (omega arith) (omega (arith, p.is, q.is)) q.small)
+  module _ (k : ℕ) (e : k ≡ count_of p.width p.low p.high) where
+    port_count : k ≡ length (words_of 16 low high)
+    port_count = e ∙ sym (words_counted p.width p.low p.high p.closed) ∙ ap length port_words
 
-pub word_count : (r : Rule) (a b c d s k : ℕ) → Good r → Half r.slow a → Half r.shigh b → Half r.dlow c → Half r.dhigh d
-    → s ≡ count_of 16 a b → k ≡ count_of 16 c d → WordCount r (s * k)
-word_count r a b c d s k g ha hb hc hd es ek = record {
-  is = ap₂ (λ (x y : ℕ). x * y) (port_count r.slow r.shigh a b s g.source ha hb es) (port_count r.dlow r.dhigh c d k g.dest hc hd ek)
-      ∙ sym (rule_product 0 r);
-  small = mul-le-mul (port_most r.slow r.shigh a b s g.source ha hb es) (port_most r.dlow r.dhigh c d k g.dest hc hd ek);
+    port_most : k ≤ 30
+    port_most = omega (arith, e, words_counted p.width p.low p.high p.closed, words_few p.width p.low p.high p.closed)
+
+pub word_count : (r : Rule) (p q : Interval) (s d : ℕ) → PortsOf r.slow r.shigh p → PortsOf r.dlow r.dhigh q
+    → s ≡ count_of p.width p.low p.high → d ≡ count_of q.width q.low q.high → WordCount r (s * d)
+word_count r p q s d op oq es ed = record {
+  is = ap₂ (λ (x y : ℕ). x * y) (port_count r.slow r.shigh p op s es) (port_count r.dlow r.dhigh q oq d ed) ∙ sym (rule_product 0 r);
+  small = mul-le-mul (port_most r.slow r.shigh p op s es) (port_most r.dlow r.dhigh q oq d ed);
 }

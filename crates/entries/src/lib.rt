@@ -24,6 +24,7 @@ fn ports(low: u16, high: u16) -> Interval
 }
 
 // The value and the mask of the protocol's word: any protocol, or the rule's own.
+#[tactic(auto, unfolding(crate::specs::Words::proto_word))]
 fn protocol(r: Rule) -> (u8, u8)
     ensures { (result.0 ≡ (proto_word r).value) × (result.1 ≡ (proto_word r).mask) }
 {

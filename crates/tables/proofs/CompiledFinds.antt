@@ -10,14 +10,13 @@ use native.Mathlib.Omega.{arith}
 use lib.Dec.{eqb, ltb}
 use lib.ListN.{drop, length}
 use lib.Seq.{get_or-drop}
-use borrow.Author.Tests.{eqb-false, eqb-true, le-ltb, lt-ltb}
+use borrow.Author.Tests.{eqb-true, le-ltb, lt-ltb}
 use Rattle.answers.proofs.Lending.{left_done}
-use Rattle.answers.specs.Answers.{done, refused}
+use Rattle.answers.specs.Answers.{behind_ill, done, refused}
 use Rattle.answers.specs.Refusals as refusal
 use Rattle.answers.specs.declared.Answer.{Answer}
-use Rattle.answers.specs.declared.Lowest.TheVariants.{None}
 use Rattle.bits.proofs.Orders.{le_or_lt}
-use Rattle.std.specs.Prelude.{if◌then◌else◌}
+use Rattle.std.specs.Prelude.{Option, None, Result, Ok, Err, if◌then◌else◌}
 use Rattle.entries.proofs.Spans.{length_entries}
 use Rattle.entries.specs.Words.{entries_of, needed}
 use Rattle.fields.proofs.Writing.{length_write}
@@ -32,21 +31,20 @@ use Rattle.rules.proofs.Goods.{fine, good_list, good_next}
 use Rattle.rules.proofs.Settled.{fault_some}
 use Rattle.rules.specs.Faults.{behind_rules, first_bad, tested_rules}
 use Rattle.rules.specs.Finding as rule
-use Rattle.rules.specs.declared.faults.ListTest.{ListTest}
-use Rattle.rules.specs.declared.faults.ListTest.TheVariants.{Good, Refused}
-use Rattle.rules.specs.declared.finding.Found as rule-answer
+use Rattle.rules.specs.declared.faults.ListFault.{ListFault}
+use Rattle.rules.specs.declared.finding.FindError.{FindError}
+use Rattle.rules.specs.declared.finding.Found as rule_found
 use Rattle.tables.specs.Compiling.{Compiling, Taken, compiled_as, compiling}
 use Rattle.tables.specs.Looking.{first_ill, first_record, found_as, looking, looking_formed}
 use Rattle.tables.specs.Meaning.{AllSound, forget}
-use Rattle.tables.specs.declared.compiling.Compiled.TheVariants.{Words}
 use Rattle.tables.specs.declared.finding.Found.{Found}
+use Rattle.tables.specs.declared.finding.LookError.{LookError}
 use Rattle.tables.proofs.Demand2.{table_finds}
 use Rattle.tables.proofs.FormedTable.{compiled_formed}
-use Rattle.tables.proofs.Scanning.{formed_header, formed_found, looking_found}
 
 -- ---- a well-formed list
 
-all_sound : (n i : ℕ) (l : List ℕ) → Bytes l → first_bad i (rules_of n l) ≡ Good → AllSound (rules_of n l)
+all_sound : (n i : ℕ) (l : List ℕ) → Bytes l → first_bad i (rules_of n l) ≡ Ok tt → AllSound (rules_of n l)
 unfolding rules_of
 all_sound zero i l b e = tt
 all_sound (suc n) i l b e =
@@ -57,12 +55,12 @@ all_sound (suc n) i l b e =
     )
 
 -- so what the laws about a rule's words ask of a rule holds of each rule of a well-formed list
-pub rules_sound : (l : List ℕ) → Bytes l → tested_rules l ≡ Good → AllSound (all_rules l)
+pub rules_sound : (l : List ℕ) → Bytes l → tested_rules l ≡ Ok tt → AllSound (all_rules l)
 rules_sound l b e = all_sound (length l / rule_size) 0 l b (good_list l e).good
 
 -- ---- what compiling answers
 
-module _ (l : List ℕ) (bytes : ℕ) (good : tested_rules l ≡ Good) where
+module _ (l : List ℕ) (bytes : ℕ) (good : tested_rules l ≡ Ok tt) where
   -- turned down, with the number of words needed, where they outnumber the room
   pub turned_down : room_of bytes < needed (all_rules l) → compiling l bytes ≡ refused refusal.space (needed (all_rules l)) 0
   unfolding compiling behind_rules
@@ -78,12 +76,12 @@ pub was_taken : (l : List ℕ) (bytes : ℕ) → (compiling l bytes).no ≡ 0 �
 unfolding compiling behind_rules
 was_taken l bytes e = go (tested_rules l) refl (le_or_lt (needed (all_rules l)) (room_of bytes)) e
   where
-    go : (t : ListTest) → tested_rules l ≡ t → (needed (all_rules l) ≤ room_of bytes) ⊎ (room_of bytes < needed (all_rules l))
+    go : (t : Result Unit ListFault) → tested_rules l ≡ t → (needed (all_rules l) ≤ room_of bytes) ⊎ (room_of bytes < needed (all_rules l))
         → (behind_rules t (if ltb (room_of bytes) (needed (all_rules l)) then refused refusal.space (needed (all_rules l)) 0 else done (needed (all_rules l)) 0 0 0)).no ≡ 0
         → Taken l bytes
-    go (Refused f) p q z = absurd (fault_some f z)
-    go Good p (inl q) z = record { good = p; room = q }
-    go Good p (inr q) z = absurd (omega (arith, rw (lt-ltb (room_of bytes) (needed (all_rules l)) q) at z))
+    go (Err f) p q z = absurd (fault_some f z)
+    go (Ok x) p (inl q) z = record { good = p; room = q }
+    go (Ok x) p (inr q) z = absurd (omega (arith, rw (lt-ltb (room_of bytes) (needed (all_rules l)) q) at z))
 
 -- ---- the compiled table
 
@@ -127,7 +125,8 @@ module _ (l before : List ℕ) (bl : Bytes l) (r : Answer) (t : List ℕ) (c : C
   never_ill = rw (count, ← length_is, written) (compiled_formed 0 (all_rules l) sound 0 rest)
 
   looked : (h : List ℕ) → looking t r.a h ≡ looking_formed t r.a h
-  looked h = looking_found t r.a h never_stated never_ill
+  unfolding looking behind_ill
+  looked h = rw (le-ltb (room_of (length t)) r.a never_stated, never_ill)
 
   -- the rule list's answer, as the list is well formed
   read : (h : List ℕ) → rule.finding l h ≡ rule.finding_good l h
@@ -136,22 +135,23 @@ module _ (l before : List ℕ) (bl : Bytes l) (r : Answer) (t : List ℕ) (c : C
 
   -- the one equation: whatever the header, the table's answer without the record's index is the rule list's answer
   pub finds_same : (h : List ℕ) → Bytes h → forget (looking t r.a h) ≡ rule.finding l h
-  unfolding rule.finding_good entries
+  unfolding rule.finding_good looking_formed entries
   finds_same h bh = go (eqb (length h) key_size) refl
     where
       go : (b : Bool) → eqb (length h) key_size ≡ b → forget (looking t r.a h) ≡ rule.finding l h
       go true e =
           let z : length h ≡ key_size = eqb-true (length h) key_size e in
-          ap forget (looked h ∙ formed_found t r.a h z)
+          let f : looking_formed t r.a h ≡ first_record r.a 0 t h = simp e in
+          ap forget (looked h ∙ f)
           ∙ ap forget (ap₂ (λ (k : ℕ) (u : List ℕ). first_record k 0 u h) (count ∙ sym length_is) written)
           ∙ table_finds (all_rules l) sound h z bh rest
           ∙ sym (read h ∙ simp e)
       go false e =
-          ap forget (looked h ∙ sym (formed_header t r.a h (eqb-false (length h) key_size e)))
-          ∙ sym (read h ∙ simp e)
+          let f : looking_formed t r.a h ≡ refused refusal.header 0 0 = simp e in
+          ap forget (looked h ∙ f) ∙ sym (read h ∙ simp e)
 
 -- and so it is of what the calls return: where `compile` returns k words, `find_word` finds what `find_rule` finds
-pub calls_agree : (l before : List ℕ) → Bytes l → (k : ℕ) (t : List ℕ) → Compiling l before (compiled_as (Words k)) t
-    → (h : List ℕ) → Bytes h → (f : Found) (g : rule-answer.Found) → found_as f ≡ looking t k h → rule.found_as g ≡ rule.finding l h
+pub calls_agree : (l before : List ℕ) → Bytes l → (k : ℕ) (t : List ℕ) → Compiling l before (compiled_as (Ok k)) t
+    → (h : List ℕ) → Bytes h → (f : Result (Option Found) LookError) (g : Result (Option rule_found.Found) FindError) → found_as f ≡ looking t k h → rule.found_as g ≡ rule.finding l h
     → forget (found_as f) ≡ rule.found_as g
-calls_agree l before bl k t c h bh f g ef eg = ap forget ef ∙ finds_same l before bl (compiled_as (Words k)) t c refl h bh ∙ sym eg
+calls_agree l before bl k t c h bh f g ef eg = ap forget ef ∙ finds_same l before bl (compiled_as (Ok k)) t c refl h bh ∙ sym eg

@@ -22,7 +22,8 @@ use Rattle.blocks.specs.Words.{AllFormed, Disjoint, Formed}
 use Rattle.blocks.specs.declared.Word.{Word}
 use Rattle.entries.specs.Words.{addr_word, proto_word, proto_words}
 use Rattle.records.specs.declared.Rule.{Rule}
-use Rattle.rules.specs.Meaning.{addr_match, port_match, proto_match}
+use Rattle.records.specs.Prefixes.{addr_match}
+use Rattle.rules.specs.Meaning.{port_match, proto_match}
 use Rattle.tables.specs.Meaning.{AtMostOne, any}
 use Rattle.tables.proofs.Any.{Passes, one_passes}
 use Rattle.tables.proofs.Parts.{equal_parts, same_test}

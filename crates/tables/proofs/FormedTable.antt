@@ -7,8 +7,7 @@ use Prim.Native.Nat.{ℕ, suc, ◌+◌, ◌≤◌}
 use lib.Dec.{leb}
 use lib.ListN.{length}
 use borrow.Author.Tests.{le-leb}
-use Rattle.answers.specs.declared.Lowest.TheVariants.{At, None}
-use Rattle.std.specs.Prelude.{if◌then◌else◌}
+use Rattle.std.specs.Prelude.{None, Some, if◌then◌else◌}
 use Rattle.entries.specs.Words.{entries_of, rule_entries}
 use Rattle.records.specs.Entries.{entry_bytes, table_bytes}
 use Rattle.records.specs.declared.Entry.{Entry}
@@ -36,7 +35,7 @@ all_formed i (r ∷ rs) s e m =
 
 first_formed : (e : Entry) (t : List ℕ) (k j : ℕ)
     → first_ill (suc k) j (entry_bytes e ++ t)
-    ≡ (if bytes_match (key_bytes e.value) (key_bytes e.mask) (key_bytes e.value) && leb e.action 3 then first_ill k (j + 1) t else At j)
+    ≡ (if bytes_match (key_bytes e.value) (key_bytes e.mask) (key_bytes e.value) && leb e.action 3 then first_ill k (j + 1) t else Some j)
 unfolding first_ill key_bytes
 first_formed e t k j = refl
 

@@ -8,8 +8,7 @@ use lib.ListN.{drop}
 use lib.Seq.{drop-drop}
 use Rattle.answers.specs.Answers.{done}
 use Rattle.answers.specs.declared.Answer.{Answer}
-use Rattle.answers.specs.declared.Lowest.TheVariants.{None, At}
-use Rattle.std.specs.Prelude.{if◌then◌else◌}
+use Rattle.std.specs.Prelude.{None, Some, if◌then◌else◌}
 use Rattle.records.specs.Entries.{action_of, number_of}
 use Rattle.records.specs.Layout.{record_size}
 use Rattle.tables.specs.Indices.{Each, First, FirstMatch, matching, record_at}
@@ -37,18 +36,18 @@ first_later test c k t i e f = record {
 
 -- ---- the lowest ill-formed record, the first having index b
 
-ill_from_lem : (k b : ℕ) (t : List ℕ) (i : ℕ) → first_ill k b t ≡ At i → (n : ℕ) × (i ≡ b + n) × First record_formed? false k t n
+ill_from_lem : (k b : ℕ) (t : List ℕ) (i : ℕ) → first_ill k b t ≡ Some i → (n : ℕ) × (i ≡ b + n) × First record_formed? false k t n
 unfolding first_ill
 ill_from_lem zero b t i e = let z : ◌≡◌ {A = ℕ} 0 1 = cc in absurd (omega arith)
 ill_from_lem (suc k) b t i e = go (record_formed? t) refl e (ill_from_lem k (b + 1) (drop record_size t) i)
   where
-    go : (c : Bool) → record_formed? t ≡ c → (if c then first_ill k (b + 1) (drop record_size t) else At b) ≡ At i
-        → (first_ill k (b + 1) (drop record_size t) ≡ At i → (n : ℕ) × (i ≡ b + 1 + n) × First record_formed? false k (drop record_size t) n)
+    go : (c : Bool) → record_formed? t ≡ c → (if c then first_ill k (b + 1) (drop record_size t) else Some b) ≡ Some i
+        → (first_ill k (b + 1) (drop record_size t) ≡ Some i → (n : ℕ) × (i ≡ b + 1 + n) × First record_formed? false k (drop record_size t) n)
         → (n : ℕ) × (i ≡ b + n) × First record_formed? false (suc k) t n
     go false a v r = let s : i ≡ b = cc in (0, omega arith, first_now record_formed? false k t a)
     go true a v r = let l = r v in (suc l.0, omega (arith, l.1), first_later record_formed? false k t l.0 a l.2)
 
-pub ill_lowest : (k : ℕ) (t : List ℕ) (i : ℕ) → first_ill k 0 t ≡ At i → First record_formed? false k t i
+pub ill_lowest : (k : ℕ) (t : List ℕ) (i : ℕ) → first_ill k 0 t ≡ Some i → First record_formed? false k t i
 ill_lowest k t i e = let l = ill_from_lem k 0 t i e in let s : i ≡ l.0 = omega (arith, l.1) in rw s l.2
 
 none_from : (k b : ℕ) (t : List ℕ) → first_ill k b t ≡ None → Each record_formed? true k t
@@ -56,7 +55,7 @@ unfolding first_ill
 none_from zero b t e = λ j h. absurd (omega arith)
 none_from (suc k) b t e = go (record_formed? t) refl e (none_from k (b + 1) (drop record_size t))
   where
-    go : (c : Bool) → record_formed? t ≡ c → (if c then first_ill k (b + 1) (drop record_size t) else At b) ≡ None
+    go : (c : Bool) → record_formed? t ≡ c → (if c then first_ill k (b + 1) (drop record_size t) else Some b) ≡ None
         → (first_ill k (b + 1) (drop record_size t) ≡ None → Each record_formed? true k (drop record_size t)) → Each record_formed? true (suc k) t
     go false a v r = let z : ◌≡◌ {A = ℕ} 0 1 = cc in absurd (omega arith)
     go true a v r = each_more record_formed? true k t a (r v)

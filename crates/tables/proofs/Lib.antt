@@ -1,8 +1,6 @@
-pub mod Totals
 pub mod Filling
-pub mod Promises
+pub mod Chunked
 pub mod Gathering
-pub mod Scanning
 pub mod Indices
 pub mod Any
 pub mod Parts

@@ -26,6 +26,7 @@ impl From<ListFault> for CompileError {
 }
 
 // How many words a list needs.
+#[tactic(auto, using(rules::proofs::Goods::fine_at), unfolding(entries::specs::Words::needed))]
 fn total(list: RuleList<'_>) -> u32
     ensures { result ≡ needed (rules_in list.entry.records.now) }
 {
@@ -37,6 +38,7 @@ fn total(list: RuleList<'_>) -> u32
 }
 
 // Writes the records of all rules, each rule's on from the first free record.
+#[tactic(auto, using(rules::proofs::Goods::fine_at), unfolding(entries::specs::Words::entries_of))]
 fn fill(list: RuleList<'_>, table: &mut [u8])
     requires { record_size * needed (rules_in list.records.now) ≤ length table.old }
     ensures { table.new ≡ write_at table.old 0 (table_bytes (entries_of 0 (rules_in list.entry.records.now))) }
@@ -55,6 +57,7 @@ pub fn room(bytes: usize) -> usize
 }
 
 // Compiles where there is room, and answers how many words the table has.
+#[tactic(auto, unfolding(crate::specs::Compiling::compiling, rules::specs::Faults::behind_rules, answers::specs::Lent::left_by))]
 pub fn compile(rules: &[u8], table: &mut [u8]) -> Result<u32, CompileError>
     ensures { Compiling rules.now table.old (compiled_as result) table.new }
 {

@@ -28,31 +28,33 @@ pub enum LookError {
 
 // What differs so far, d, with what differs between x under the mask and the value. Nothing is tested on the way, so that
 // the loops below have no early exit and run over several bytes at once.
+#[tactic(auto, using(crate::proofs::Gathering::gathers))]
 fn differing(d: u8, x: u8, mask: u8, value: u8) -> u8
     ensures { eqb result 0 ≡ (eqb d 0 && eqb (bit_and x mask) value) }
 {
     d | ((x & mask) ^ value)
 }
 
-fn matches_record(record: &[u8; RECORD_SIZE], header: &[u8; KEY_SIZE]) -> bool
-    ensures { result ≡ record_matches? record.now header.now }
+fn matches_record(bytes: &[u8; RECORD_SIZE], header: &[u8; KEY_SIZE]) -> bool
+    ensures { result ≡ record_matches? bytes.now header.now }
 {
     let mut d = 0;
     for j in 0..KEY_SIZE {
-        d = differing(d, header[j], record[MASK_AT + j], record[j]);
+        d = differing(d, header[j], bytes[MASK_AT + j], bytes[j]);
     }
     d == 0
 }
 
 // A record is well formed: it matches its own value, and its action is known.
-fn formed_record(record: &[u8; RECORD_SIZE]) -> bool
-    ensures { result ≡ record_formed? record.now }
+fn formed_record(bytes: &[u8; RECORD_SIZE]) -> bool
+    ensures { result ≡ record_formed? bytes.now }
 {
-    let value = record.first_chunk::<KEY_SIZE>().unwrap();
-    matches_record(record, value) && Action::try_from(record[ACTION_AT]).is_ok()
+    let value = bytes.first_chunk::<KEY_SIZE>().unwrap();
+    matches_record(bytes, value) && Action::try_from(bytes[ACTION_AT]).is_ok()
 }
 
 // The lowest index of an ill-formed record.
+#[tactic(auto, unfolding(crate::specs::Records::first_ill_among))]
 fn first_ill(records: &[[u8; RECORD_SIZE]]) -> Option<usize>
     ensures { result ≡ first_ill_among 0 records.now }
 {
@@ -65,6 +67,7 @@ fn first_ill(records: &[[u8; RECORD_SIZE]]) -> Option<usize>
 }
 
 // The first record that matches.
+#[tactic(auto, unfolding(crate::specs::Records::first_among))]
 fn first_record(records: &[[u8; RECORD_SIZE]], header: &[u8; KEY_SIZE]) -> Option<Found>
     requires formed { EachFormed records.now }
     requires few { length records.now ≤ word_limit }
@@ -83,6 +86,7 @@ fn first_record(records: &[[u8; RECORD_SIZE]], header: &[u8; KEY_SIZE]) -> Optio
 }
 
 // The first of the first k records that matches, or nothing where none does.
+#[tactic(auto, using(crate::proofs::Chunked::ill_in, crate::proofs::Chunked::among_in, crate::proofs::Chunked::none_each), unfolding(crate::specs::Looking::looking, crate::specs::Looking::looking_formed, answers::specs::Answers::behind_ill))]
 pub fn find_word(table: &[u8], k: usize, header: &[u8]) -> Result<Option<Found>, LookError>
     ensures { found_as result ≡ looking table.now k header.now }
 {

@@ -4,13 +4,7 @@ use Rattle.entries.proofs.RuleCounts.{word_count}
 use Rattle.entries.proofs.words.Goals as goal
 
 pub returns : goal.returns
-returns c =
-    word_count _ _ _ _ _ _ _ c.requires c.half.ensures c.half-2.ensures
-    c.half-3.ensures c.half-4.ensures c.count-s.ensures c.count-d.ensures
+returns c = word_count _ _ _ _ _ c.ports.ensures c.ports-2.ensures c.count.ensures c.count-2.ensures
 
 pub overflow_mul-result : goal.overflow_mul-result
-overflow_mul-result c =
-    let k =
-    word_count _ _ _ _ _ _ _ c.requires c.half.ensures c.half-2.ensures
-    c.half-3.ensures c.half-4.ensures c.count-s.ensures c.count-d.ensures in
-    omega (arith, k.small)
+overflow_mul-result c = omega (arith, (word_count c.args.r _ _ _ _ c.ports.ensures c.ports-2.ensures c.count.ensures c.count-2.ensures).small)
