@@ -14,7 +14,7 @@ use Rattle.blocks.proofs.Walking.{words_counted, words_few}
 use Rattle.records.specs.declared.Entry.{Entry}
 use Rattle.records.specs.declared.Rule.{Rule}
 use Rattle.entries.specs.Words.{WordCount, dest_words, each, entry_with, proto_word, proto_words, rule_entries, source_words}
-use Rattle.entries.specs.Written.{PortsOf}
+use Rattle.blocks.specs.Walked.{Is}
 
 -- the records of a source word
 abbrev pub row : Rule → ℕ → Word → List Entry
@@ -42,7 +42,7 @@ length_rule i j r = rule_product i r ∙ sym (rule_product j r)
 
 -- ---- a port's words
 
-module _ (low high : ℕ) (p : Interval) (o : PortsOf low high p) where
+module _ (low high : ℕ) (p : Interval) (o : Is 16 low high p) where
   -- they are those of the interval that the code makes
   pub port_words : words_of p.width p.low p.high ≡ words_of 16 low high
   port_words = rw (o.width, o.first, o.last)
@@ -54,7 +54,7 @@ module _ (low high : ℕ) (p : Interval) (o : PortsOf low high p) where
     port_most : k ≤ 30
     port_most = omega (arith, e, words_counted p.width p.low p.high p.closed, words_few p.width p.low p.high p.closed)
 
-pub word_count : (r : Rule) (p q : Interval) (s d : ℕ) → PortsOf r.slow r.shigh p → PortsOf r.dlow r.dhigh q
+pub word_count : (r : Rule) (p q : Interval) (s d : ℕ) → Is 16 r.slow r.shigh p → Is 16 r.dlow r.dhigh q
     → s ≡ count_of p.width p.low p.high → d ≡ count_of q.width q.low q.high → WordCount r (s * d)
 word_count r p q s d op oq es ed = record {
   is = ap₂ (λ (x y : ℕ). x * y) (port_count r.slow r.shigh p op s es) (port_count r.dlow r.dhigh q oq d ed) ∙ sym (rule_product 0 r);

@@ -1,7 +1,5 @@
--- What writing records leaves: they stand from a place on, and the answer is where the next one goes. And the ports whose
--- words are written.
+-- What writing records leaves: they stand from a place on, and the answer is where the next one goes.
 use Rattle.std.specs.Prelude.{List, ◌≡◌, ℕ, ◌+◌, ◌*◌, length}
-use Rattle.blocks.specs.declared.intervals.Interval.{Interval}
 use Rattle.fields.specs.Writes.{write_at}
 use Rattle.records.specs.Entries.{table_bytes}
 use Rattle.records.specs.declared.Entry.{Entry}
@@ -11,9 +9,3 @@ pub record Wrote (before after : List ℕ) (at : ℕ) (es : List Entry) (next : 
   pub is : after ≡ write_at before at (table_bytes es)
   pub free : next ≡ at + record_size * length es
   pub same : length after ≡ length before
-
--- the ports from low to high
-pub record PortsOf (low high : ℕ) (ports : Interval) : Type 0 where
-  pub width : ports.width ≡ 16
-  pub first : ports.low ≡ low
-  pub last : ports.high ≡ high

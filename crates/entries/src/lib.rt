@@ -3,10 +3,11 @@
 #![tactic(auto)]
 
 ghost use Rattle.std.specs.Prelude.{◌≡◌, ◌*◌, ◌≤◌, length};
+ghost use Rattle.blocks.specs.Walked.{Is};
 ghost use Rattle.blocks.specs.Words.{word};
 ghost use Rattle.records.specs.Layout.{record_size};
 ghost use Rattle.entries.specs.Words.{Good, WordCount, entry_with, ported_entry, proto_word, rule_entries};
-ghost use Rattle.entries.specs.Written.{PortsOf, Wrote};
+ghost use Rattle.entries.specs.Written.{Wrote};
 
 use blocks::{Interval, Word};
 use records::{Entry, Key, Prefix, RECORD_SIZE, Rule};
@@ -14,7 +15,7 @@ use records::{Entry, Key, Prefix, RECORD_SIZE, Rule};
 // The ports from low to high.
 fn ports(low: u16, high: u16) -> Interval
     requires { low ≤ high }
-    ensures { PortsOf low high result }
+    ensures { Is 16 low high result }
 {
     Interval {
         width: 16,
@@ -33,7 +34,7 @@ fn protocol(r: Rule) -> (u8, u8)
 
 // A rule's record, as far as all of its records are alike: the ports are still open.
 fn unported(r: Rule, number: u8) -> Entry
-    requires { Good r }
+    requires { (r.slen ≤ 32) × (r.dlen ≤ 32) }
     ensures { result ≡ entry_with r number (proto_word r) (word 0 0) (word 0 0) }
 {
     let (value, mask) = protocol(r);
