@@ -1,9 +1,5 @@
 pub mod Testing
-pub mod Closing
-pub mod Filling
-pub mod Steps
-pub mod Walked
-pub mod Judging
+pub mod Words
 pub mod Verdicts
-pub mod Checking
-pub mod Settled
+pub mod Pairs
+pub mod Filling

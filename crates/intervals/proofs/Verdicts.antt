@@ -12,12 +12,12 @@ use lib.ListN.{get_or, length}
 use borrow.Author.Tests.{le-leb, leb-true}
 use Rattle.answers.specs.Answers.{done}
 use Rattle.answers.specs.declared.Answer.{Answer}
-use Rattle.answers.specs.declared.Lowest.TheVariants.{None, At}
 use Rattle.bits.proofs.Orders.{le_or_lt}
-use Rattle.std.specs.Prelude.{if◌then◌else◌}
+use Rattle.std.specs.Prelude.{None, Some, if◌then◌else◌}
 use Rattle.blocks.proofs.Testing.{formed_test, some_test, test_formed, test_some}
 use Rattle.blocks.specs.Tests.{formed?, some?}
-use Rattle.blocks.specs.Words.{AllFormed, Exactly, Formed, Some, word}
+use Rattle.blocks.specs.Words as words
+use Rattle.blocks.specs.Words.{AllFormed, Exactly, Formed, word}
 use Rattle.blocks.specs.declared.Word.{Word}
 use Rattle.intervals.specs.Checks.{Disagree, agree?, first_ill, verdict}
 
@@ -37,10 +37,10 @@ module _ (low high x : ℕ) where
   test_inside i = rw (le-leb low x i.0, le-leb x high i.1)
 
 module _ (n low high : ℕ) (ws : List Word) (f : AllFormed n ws) (x : ℕ) where
-  agree_some : agree? low high ws x ≡ true → (low ≤ x) × (x ≤ high) → Some ws x
+  agree_some : agree? low high ws x ≡ true → (low ≤ x) × (x ≤ high) → words.Some ws x
   agree_some e i = some_test n ws x f (sym (same (leb low x && leb x high) (some? ws x) e) ∙ test_inside low high x i)
 
-  agree_within : agree? low high ws x ≡ true → Some ws x → (low ≤ x) × (x ≤ high)
+  agree_within : agree? low high ws x ≡ true → words.Some ws x → (low ≤ x) × (x ≤ high)
   agree_within e s = inside_test low high x (same (leb low x && leb x high) (some? ws x) e ∙ test_some n ws x f s)
 
   agree_fine : agree? low high ws x ≡ true → Disagree low high ws x → ⊥
@@ -52,7 +52,7 @@ module _ (n low high : ℕ) (ws : List Word) (f : AllFormed n ws) (x : ℕ) wher
     where
       go : (a : Bool) → (leb low x && leb x high) ≡ a → (b : Bool) → some? ws x ≡ b → beq a b ≡ false → Disagree low high ws x
       go true p true q e = absurd (true≢false e)
-      go true p false q e = inl (inside_test low high x p, λ (s : Some ws x). true≢false (sym (test_some n ws x f s) ∙ q))
+      go true p false q e = inl (inside_test low high x p, λ (s : words.Some ws x). true≢false (sym (test_some n ws x f s) ∙ q))
       go false p true q e = inr (λ (i : (low ≤ x) × (x ≤ high)). true≢false (sym (test_inside low high x i) ∙ p), some_test n ws x f q)
       go false p false q e = absurd (true≢false e)
 
@@ -81,7 +81,7 @@ module _ (low high : ℕ) (ws : List Word) where
       go true a v r (inl l) = r v y l (omega arith)
       go true a v r (inr l) = let s : y ≡ x = omega arith in rw s a
 
-  all_yes : (d x : ℕ) → ((y : ℕ) → x ≤ y → y < x + d → agree? low high ws y ≡ true) → verdict d x low high ws ≡ done 1 0 0 0
+  pub all_yes : (d x : ℕ) → ((y : ℕ) → x ≤ y → y < x + d → agree? low high ws y ≡ true) → verdict d x low high ws ≡ done 1 0 0 0
   unfolding verdict
   all_yes zero x h = refl
   all_yes (suc d) x h = rw (h x (omega arith) (omega arith), verdict) (all_yes d (x + 1) (λ y p q. h y (omega arith) (omega arith)))
@@ -158,13 +158,13 @@ record Lowest (n b : ℕ) (ws : List Word) (i : ℕ) : Type 0 where
   ill : formed? n (get_or ws place (word 0 0)) ≡ false
   before : (j : ℕ) → j < place → formed? n (get_or ws j (word 0 0)) ≡ true
 
-ill_from_lem : (n b : ℕ) (ws : List Word) (i : ℕ) → first_ill n b ws ≡ At i → Lowest n b ws i
+ill_from_lem : (n b : ℕ) (ws : List Word) (i : ℕ) → first_ill n b ws ≡ Some i → Lowest n b ws i
 unfolding first_ill
 ill_from_lem n b [] i e = let z : ◌≡◌ {A = ℕ} 0 1 = cc in absurd (omega arith)
 ill_from_lem n b (w ∷ ws) i e = go (formed? n w) refl e (ill_from_lem n (b + 1) ws i)
   where
-    go : (t : Bool) → formed? n w ≡ t → (if t then first_ill n (b + 1) ws else At b) ≡ At i
-        → (first_ill n (b + 1) ws ≡ At i → Lowest n (b + 1) ws i) → Lowest n b (w ∷ ws) i
+    go : (t : Bool) → formed? n w ≡ t → (if t then first_ill n (b + 1) ws else Some b) ≡ Some i
+        → (first_ill n (b + 1) ws ≡ Some i → Lowest n (b + 1) ws i) → Lowest n b (w ∷ ws) i
     go false a v r =
         let s : i ≡ b = cc in
         record { place = 0; is = omega arith; listed = omega arith; ill = a; before = λ j h. absurd (omega arith) }
@@ -176,7 +176,7 @@ ill_from_lem n b (w ∷ ws) i e = go (formed? n w) refl e (ill_from_lem n (b + 1
         earlier l zero h = a
         earlier l (suc j) h = l.before j (omega arith)
 
-pub ill_lowest : (n : ℕ) (ws : List Word) (i : ℕ) → first_ill n 0 ws ≡ At i
+pub ill_lowest : (n : ℕ) (ws : List Word) (i : ℕ) → first_ill n 0 ws ≡ Some i
     → (i < length ws) × (formed? n (get_or ws i (word 0 0)) ≡ false) × ((j : ℕ) → j < i → formed? n (get_or ws j (word 0 0)) ≡ true)
 ill_lowest n ws i e =
     let l = ill_from_lem n 0 ws i e in
@@ -188,7 +188,7 @@ unfolding first_ill
 none_from n b [] e w m = absurd (Memᴰ.not-nil m)
 none_from n b (v ∷ ws) e w m = go (formed? n v) refl e (Memᴰ.cases_cons m) (none_from n (b + 1) ws)
   where
-    go : (t : Bool) → formed? n v ≡ t → (if t then first_ill n (b + 1) ws else At b) ≡ None → (w ≡ v) ⊎ Memᴰ w ws
+    go : (t : Bool) → formed? n v ≡ t → (if t then first_ill n (b + 1) ws else Some b) ≡ None → (w ≡ v) ⊎ Memᴰ w ws
         → (first_ill n (b + 1) ws ≡ None → AllFormed n ws) → Formed n w
     go false a i o r = let z : ◌≡◌ {A = ℕ} 0 1 = cc in absurd (omega arith)
     go true a i (inl e) r = rw e (formed_test n v a)

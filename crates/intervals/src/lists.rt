@@ -6,6 +6,7 @@ ghost use Rattle.intervals.specs.Lists.{Listing, counted_as, counting, ends_refu
 use crate::ends::{Fault, test_ends};
 use blocks::Interval;
 
+#[tactic(auto, unfolding(crate::specs::Lists::counting, crate::specs::Ends::behind))]
 pub fn count(n: u32, low: u32, high: u32) -> Result<u32, Fault>
     ensures { counted_as result ≡ counting n low high }
 {
@@ -40,6 +41,7 @@ fn fill(interval: Interval, out: &mut [u16])
 }
 
 // Lists the words where there is room, and answers how many they are.
+#[tactic(auto, using(crate::proofs::Filling::length_words), unfolding(crate::specs::Lists::listing, crate::specs::Ends::behind, answers::specs::Lent::left_by))]
 pub fn list(n: u32, low: u32, high: u32, out: &mut [u16]) -> Result<u32, ListError>
     ensures { Listing n low high out.old (listed_as result) out.new }
 {

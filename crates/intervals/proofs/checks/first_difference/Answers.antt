@@ -1,0 +1,16 @@
+-- `intervals::checks::first_difference` meets its contract. Assumes nothing.
+use Rattle.std.proofs.Common.{arith, rules, tests, refl, not, ap, sym, ◌∙◌}
+use Rattle.std.proofs.lemmas.Iterator.{YieldsList-from_range}
+use Rattle.std.proofs.lemmas.Iterator.Search.{find_from_yields_List}
+use Rattle.std.proofs.lemmas.Iterator.Adapters.{option_map_id}
+use Rattle.intervals.specs.Checks.{agree?, verdict_as, words_in}
+use Rattle.intervals.proofs.Words.{verdict_find}
+use Rattle.intervals.proofs.checks.first_difference.Goals as goal
+
+pub returns : goal.returns
+returns c =
+    let i = c.args.interval in
+    let ws = words_in c.args.words.now in
+    rw (← c.power.ensures.is)
+    (ap verdict_as (sym (option_map_id _) ∙ find_from_yields_List (λ x. not (agree? i.low i.high ws x)) _ _ _ c.find.ensures.ran (YieldsList-from_range 0 c.power.result c.power.result refl (omega arith)) (λ x b q k. search (rules, tests)))
+    ∙ verdict_find i.low i.high ws c.power.result 0)
