@@ -1,5 +1,10 @@
 pub mod Testing
 pub mod Words
-pub mod Verdicts
 pub mod Pairs
+pub mod Verdicts
 pub mod Filling
+pub mod Steps
+pub mod Closing
+pub mod Checking
+pub mod Walked
+pub mod Settled
