@@ -1,5 +1,5 @@
 pub mod Testing
-pub mod Words
+pub mod Found
 pub mod Pairs
 pub mod Verdicts
 pub mod Filling

@@ -4,7 +4,7 @@ use Rattle.std.proofs.lemmas.Iterator.{YieldsList-from_range}
 use Rattle.std.proofs.lemmas.Iterator.Search.{find_from_yields_List}
 use Rattle.std.proofs.lemmas.Iterator.Adapters.{option_map_id}
 use Rattle.intervals.specs.Checks.{agree?, verdict_as, words_in}
-use Rattle.intervals.proofs.Words.{verdict_find}
+use Rattle.intervals.proofs.Found.{verdict_find}
 use Rattle.intervals.proofs.checks.first_difference.Goals as goal
 
 pub returns : goal.returns

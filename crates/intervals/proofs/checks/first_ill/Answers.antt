@@ -4,10 +4,10 @@ use Rattle.std.proofs.lemmas.Iterator.{YieldsList-from_slice}
 use Rattle.std.proofs.lemmas.Iterator.Search.{position_from_yields_List}
 use Rattle.blocks.specs.Tests.{formed?}
 use Rattle.intervals.specs.Checks.{word_in}
-use Rattle.intervals.proofs.Words.{ill_position}
+use Rattle.intervals.proofs.Found.{ill_position}
 use Rattle.intervals.proofs.checks.first_ill.Goals as goal
 
 pub returns : goal.returns
 returns c =
     position_from_yields_List (λ p. not (formed? c.args.n (word_in p))) _ _ _ c.position.ensures.ran (YieldsList-from_slice c.args.words.now cc) (λ x b q k. search (rules, tests))
-    ∙ ill_position _ _
+    ∙ ill_position word_in _ _

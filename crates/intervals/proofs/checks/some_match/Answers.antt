@@ -4,10 +4,10 @@ use Rattle.std.proofs.lemmas.Iterator.{YieldsList-from_slice}
 use Rattle.std.proofs.lemmas.Iterator.Search.{any_from_yields_List}
 use Rattle.blocks.specs.Tests.{matches?}
 use Rattle.intervals.specs.Checks.{word_in}
-use Rattle.intervals.proofs.Words.{some_any}
+use Rattle.intervals.proofs.Found.{some_any}
 use Rattle.intervals.proofs.checks.some_match.Goals as goal
 
 pub returns : goal.returns
 returns c =
     any_from_yields_List (λ p. matches? (word_in p) c.args.x) _ _ _ c.any.ensures.ran (YieldsList-from_slice c.args.words.now cc) (λ x b q k. search (rules, tests))
-    ∙ some_any _ _
+    ∙ some_any word_in _ _
