@@ -1,15 +1,12 @@
 -- What the answer of `check` means, said of the call's own answer. Assumes nothing.
-use mathlib.Core.Bool.{Bool, true, false}
 use mathlib.Core.List.{List}
 use mathlib.Core.Logic.{◌⊎◌}
-use mathlib.Core.Path.{◌≡◌, refl, ap, ◌∙◌}
+use mathlib.Core.Path.{◌≡◌, refl, ◌∙◌}
 use Prim.Native.Nat.{ℕ, ◌/◌, ◌^◌, ◌≤◌, ◌<◌}
 use native.Mathlib.Omega.{arith}
-use lib.Dec.{ltb}
 use lib.ListN.{length}
 use borrow.Author.Tests.{le-ltb}
-use Rattle.answers.specs.Answers.{behind_ill, done, refused}
-use Rattle.answers.specs.Refusals as refusal
+use Rattle.answers.specs.Answers.{behind_ill, done}
 use Rattle.answers.specs.declared.Answer.{Answer}
 use Rattle.std.specs.Prelude.{None, Ok}
 use Rattle.std.proofs.lemmas.Bool.Decides.{nat_tests}
@@ -17,7 +14,7 @@ use Rattle.blocks.specs.Blocks.{Closed}
 use Rattle.blocks.specs.Words.{AllFormed, Exactly}
 use Rattle.intervals.specs.Checks.{Disagree, checking, first_ill, judged, verdict, words_from}
 use Rattle.intervals.specs.Ends.{behind, tested}
-use Rattle.intervals.proofs.Testing.{fault_some, good_tested, tested_good}
+use Rattle.intervals.proofs.Testing.{good_tested, tested_good}
 use Rattle.intervals.proofs.Verdicts.{formed_none, none_ill, verdict_either, verdict_no, verdict_yes, yes_verdict}
 
 -- a check that is not refused: the interval and the words were good, and the answer is the verdict on them

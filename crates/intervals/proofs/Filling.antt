@@ -4,26 +4,10 @@ use mathlib.Core.Path.{◌≡◌, refl, sym, ap, ◌∙◌}
 use Prim.Native.Nat.{ℕ, ◌+◌, ◌*◌, ◌≤◌, ◌<◌}
 use native.Mathlib.Omega.{arith}
 use lib.ListN.{length, length-set, set}
-use Rattle.blocks.specs.Blocks.{Closed, words_of}
-use Rattle.blocks.specs.Counting.{count_of}
 use Rattle.blocks.specs.declared.Word.{Word}
-use Rattle.blocks.proofs.Walking.{words_counted}
 use Rattle.fields.proofs.Writing.{write_more, write_none, write_one, write_then}
 use Rattle.fields.specs.Writes.{write_at}
-use Rattle.intervals.specs.Lists.{numbers, numbers_of}
-
--- ---- how many numbers there are
-
-length_numbers : (ws : List Word) → length (numbers ws) ≡ 2 * length ws
-unfolding numbers
-length_numbers [] = refl
-length_numbers (w ∷ ws) = omega (arith, length_numbers ws)
-
--- the count of document 01 is the number of words listed
-pub length_words : (n low high : ℕ) → Closed n low high → length (numbers_of n low high) ≡ 2 * count_of n low high
-length_words n low high c = length_numbers (words_of n low high) ∙ ap (λ (k : ℕ). 2 * k) (words_counted n low high c)
-
--- ---- filling
+use Rattle.intervals.specs.Lists.{numbers}
 
 two_stores : (l : List ℕ) (i a b : ℕ) → i + 1 < length l → set (set l i a) (i + 1) b ≡ write_at l i (a ∷ b ∷ [])
 two_stores l i a b h =
@@ -33,7 +17,7 @@ two_stores l i a b h =
 -- i words are written, and the words ws are left: written behind them, they complete the list
 pub record Filled (before whole out : List ℕ) (i : ℕ) (ws : List Word) : Type 0 where
   pub left : write_at out (2 * i) (numbers ws) ≡ write_at before 0 whole
-  pub room : 2 * i + length (numbers ws) ≤ length out
+  pub room : 2 * (i + length ws) ≤ length out
 
 module _ (before whole : List ℕ) (out : List ℕ) (i : ℕ) (vs : List Word) (f : Filled before whole out i vs) where
   pub filled_end : vs ≡ [] → out ≡ write_at before 0 whole
@@ -42,9 +26,8 @@ module _ (before whole : List ℕ) (out : List ℕ) (i : ℕ) (vs : List Word) (
 
   -- the next word is w, with its place and the place after it as the code counts them
   module _ (w : Word) (ws : List Word) (e : vs ≡ w ∷ ws) (j : ℕ) (d : j ≡ i) where
-    pub filled_room : 2 * j + 1 < length out
-    unfolding numbers
-    filled_room = omega (arith, f.room, ap (λ (ws : List Word). length (numbers ws)) e)
+    filled_room : 2 * j + 1 < length out
+    filled_room = omega (arith, f.room, ap length e)
 
     pub filled_more : (k : ℕ) → k ≡ i + 1 → Filled before whole (set (set out (2 * j) w.value) (2 * j + 1) w.mask) k ws
     unfolding numbers
@@ -52,7 +35,7 @@ module _ (before whole : List ℕ) (out : List ℕ) (i : ℕ) (vs : List Word) (
         let z : 2 * k ≡ 2 * j + 2 = omega arith in
         record {
           left =
-            rw (z, two_stores out (2 * j) w.value w.mask filled_room, write_more out (2 * j) (w.value ∷ w.mask ∷ []) (numbers ws) (omega (arith, filled_room)), d)
-            (ap (λ (ws : List Word). write_at out (2 * i) (numbers ws)) (sym e) ∙ f.left);
-          room = simp length-set (omega (arith, f.room, ap (λ (ws : List Word). length (numbers ws)) e));
+              rw (z, two_stores out (2 * j) w.value w.mask filled_room, write_more out (2 * j) (w.value ∷ w.mask ∷ []) (numbers ws) (omega (arith, filled_room)), d)
+              (ap (λ (ws : List Word). write_at out (2 * i) (numbers ws)) (sym e) ∙ f.left);
+          room = simp length-set (omega (arith, f.room, ap length e));
         }

@@ -1,10 +1,8 @@
 -- One step of a walk: it has ended, or it gives a word, the last or not. Assumes nothing.
-use mathlib.Core.Bool.{true, false}
+use mathlib.Core.Bool.{true}
 use mathlib.Core.Path.{◌≡◌}
 use Prim.Native.Nat.{ℕ, ◌+◌, ◌^◌, ◌≤◌, ◌<◌}
-use native.Mathlib.Omega.{arith}
 use borrow.Author.Tests.{lt-ltb, le-ltb}
-use Rattle.std.proofs.lemmas.Bool.Decides.{nat_tests}
 use Rattle.blocks.specs.Blocks.{Closed, block, prefix_of}
 use Rattle.blocks.specs.Lowest.{free_of}
 use Rattle.intervals.specs.Walks.{Stepped, ended_at, gives, stepped_from, stepping, walk_of, zeros}

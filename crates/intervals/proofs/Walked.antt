@@ -8,13 +8,11 @@ use mathlib.Core.Path.{◌≡◌, refl, sym, ap, ◌∙◌}
 use Prim.Native.Nat.{ℕ, zero, suc, ◌+◌, ◌^◌, ◌≤◌, ◌<◌}
 use native.Mathlib.Omega.{arith}
 use lib.ListN.{length}
-use lib.Pow.{pow_mono, pow_pos}
 use Rattle.bits.proofs.Orders.{le_or_lt}
-use Rattle.bits.specs.Masks.{Power, mask_of}
 use Rattle.blocks.specs.Blocks.{Block, Closed, Largest, block, blocks_of, prefix_of, words_of}
 use Rattle.blocks.specs.Lowest.{free_of}
 use Rattle.blocks.specs.declared.Word.{Word}
-use Rattle.blocks.proofs.Lowest.{first_block, free_le}
+use Rattle.blocks.proofs.Lowest.{first_block}
 use Rattle.blocks.proofs.Members.{tiles_list}
 use Rattle.blocks.proofs.Tiles.{tiles_none}
 use Rattle.intervals.specs.Walks.{Stepped, ended_at, gives, stepping, walk_after, walk_of, walked, word_then}

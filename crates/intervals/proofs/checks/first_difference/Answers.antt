@@ -1,4 +1,5 @@
--- `intervals::checks::first_difference` meets its contract. Assumes nothing.
+-- `intervals::checks::first_difference` meets its contract: what is found over the width's values is the verdict.
+-- Assumes nothing.
 use Rattle.std.proofs.Common.{arith, rules, tests, refl, not, ap, sym, ◌∙◌}
 use Rattle.std.proofs.lemmas.Iterator.{YieldsList-from_range}
 use Rattle.std.proofs.lemmas.Iterator.Search.{find_from_yields_List}
@@ -9,8 +10,8 @@ use Rattle.intervals.proofs.checks.first_difference.Goals as goal
 
 pub returns : goal.returns
 returns c =
-    let i = c.args.interval in
-    let ws = words_in c.args.words.now in
     rw (← c.power.ensures.is)
-    (ap verdict_as (sym (option_map_id _) ∙ find_from_yields_List (λ x. not (agree? i.low i.high ws x)) _ _ _ c.find.ensures.ran (YieldsList-from_range 0 c.power.result c.power.result refl (omega arith)) (λ x b q k. search (rules, tests)))
-    ∙ verdict_find i.low i.high ws c.power.result 0)
+    (ap verdict_as
+    (sym (option_map_id _)
+    ∙ find_from_yields_List (λ x. not (agree? c.args.interval.low c.args.interval.high (words_in c.args.words.now) x)) _ _ _ c.find.ensures.ran (YieldsList-from_range 0 c.power.result c.power.result refl (omega arith)) (λ x b q k. search (rules, tests)))
+    ∙ verdict_find c.args.interval.low c.args.interval.high (words_in c.args.words.now) c.power.result 0)

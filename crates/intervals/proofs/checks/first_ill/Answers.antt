@@ -1,4 +1,4 @@
--- `intervals::checks::first_ill` meets its contract. Assumes nothing.
+-- `intervals::checks::first_ill` meets its contract: what is found is the first ill-formed word. Assumes nothing.
 use Rattle.std.proofs.Common.{rules, tests, not, ◌∙◌}
 use Rattle.std.proofs.lemmas.Iterator.{YieldsList-from_slice}
 use Rattle.std.proofs.lemmas.Iterator.Search.{position_from_yields_List}

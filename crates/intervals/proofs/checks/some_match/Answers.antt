@@ -1,4 +1,5 @@
--- `intervals::checks::some_match` meets its contract. Assumes nothing.
+-- `intervals::checks::some_match` meets its contract: one of the list's pairs is a word that matches.
+-- Assumes nothing.
 use Rattle.std.proofs.Common.{rules, tests, ◌∙◌}
 use Rattle.std.proofs.lemmas.Iterator.{YieldsList-from_slice}
 use Rattle.std.proofs.lemmas.Iterator.Search.{any_from_yields_List}
