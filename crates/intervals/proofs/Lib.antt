@@ -1,9 +1,10 @@
 pub mod Testing
-pub mod Closing
+pub mod Found
+pub mod Pairs
+pub mod Verdicts
 pub mod Filling
 pub mod Steps
-pub mod Walked
-pub mod Judging
-pub mod Verdicts
+pub mod Closing
 pub mod Checking
+pub mod Walked
 pub mod Settled

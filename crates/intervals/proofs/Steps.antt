@@ -1,36 +1,32 @@
--- One step of a walk: each return of the code is one case of it. Assumes nothing.
-use mathlib.Core.Bool.{true, false}
+-- One step of a walk: it has ended, or it gives a word, the last or not. Assumes nothing.
+use mathlib.Core.Bool.{true}
 use mathlib.Core.Path.{◌≡◌}
 use Prim.Native.Nat.{ℕ, ◌+◌, ◌^◌, ◌≤◌, ◌<◌}
 use borrow.Author.Tests.{lt-ltb, le-ltb}
-use Rattle.bits.specs.Masks.{Power, mask_of}
+use Rattle.blocks.specs.Blocks.{Closed, block, prefix_of}
 use Rattle.blocks.specs.Lowest.{free_of}
-use Rattle.blocks.specs.Words.{word}
-use Rattle.intervals.specs.Ends.{number_of, tested}
-use Rattle.intervals.specs.Walks.{ended_at, gives, stepped_from, stepping, walk_of, zeros}
-use Rattle.intervals.specs.declared.ends.Fault.{Fault}
-use Rattle.intervals.specs.declared.ends.Tested.TheVariants.{Good, Bad}
+use Rattle.intervals.specs.Walks.{Stepped, ended_at, gives, stepped_from, stepping, walk_of, zeros}
 use Rattle.intervals.specs.declared.walks.Walk.{Walk}
+use Rattle.intervals.proofs.Testing.{good_tested}
 
-module _ (w : Walk) where
-  pub step_ended : w.ended ≡ true → record { no = 0; given = 0; word = zeros; walk = w } ≡ stepping w
-  unfolding stepping
-  step_ended e = simp e
+pub step_ended : (w : Walk) → w.ended ≡ true → stepping w ≡ record { no = 0; given = 0; word = zeros; walk = w }
+unfolding stepping
+step_ended w e = simp e
 
-  pub step_refused : w.ended ≡ false → (f : Fault) → tested w.width w.next w.last ≡ Bad f
-      → record { no = number_of f; given = 0; word = zeros; walk = w } ≡ stepping w
+-- the word of the block of k free bits from next on was given, and the walk is now w
+abbrev pub gave : ℕ → ℕ → ℕ → Walk → Stepped
+gave n next k w = record { no = 0; given = 1; word = prefix_of n (block next k); walk = w }
+
+module _ (n next last : ℕ) where
+  pub step_good : Closed n next last → stepping (walk_of n next last) ≡ gives (walk_of n next last) (free_of n next (last + 1))
   unfolding stepping stepped_from
-  step_refused d f e = simp (d, e)
+  step_good c = rw (good_tested n next last c)
 
-  pub step_good : w.ended ≡ false → tested w.width w.next w.last ≡ Good → gives w (free_of w.width w.next (w.last + 1)) ≡ stepping w
-  unfolding stepping stepped_from
-  step_good d e = simp (d, e)
-
-  module _ (k m p : ℕ) (em : m ≡ mask_of w.width k) (ep : Power k p) where
-    pub gives_last : w.last < w.next + p → record { no = 0; given = 1; word = word w.next m; walk = ended_at w.width w.next w.last } ≡ gives w k
+  module _ (k : ℕ) where
+    pub gives_last : last < next + 2 ^ k → gives (walk_of n next last) k ≡ gave n next k (ended_at n next last)
     unfolding gives
-    gives_last h = let g : w.last < w.next + 2 ^ k = rw ep.is at h in simp (lt-ltb w.last (w.next + 2 ^ k) g, em)
+    gives_last h = rw (lt-ltb last (next + 2 ^ k) h)
 
-    pub gives_on : w.next + p ≤ w.last → record { no = 0; given = 1; word = word w.next m; walk = walk_of w.width (w.next + p) w.last } ≡ gives w k
+    pub gives_on : next + 2 ^ k ≤ last → gives (walk_of n next last) k ≡ gave n next k (walk_of n (next + 2 ^ k) last)
     unfolding gives
-    gives_on h = let g : w.next + 2 ^ k ≤ w.last = rw ep.is at h in simp (le-ltb w.last (w.next + 2 ^ k) g, em, ep.is)
+    gives_on h = rw (le-ltb last (next + 2 ^ k) h)

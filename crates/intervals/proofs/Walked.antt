@@ -8,19 +8,16 @@ use mathlib.Core.Path.{◌≡◌, refl, sym, ap, ◌∙◌}
 use Prim.Native.Nat.{ℕ, zero, suc, ◌+◌, ◌^◌, ◌≤◌, ◌<◌}
 use native.Mathlib.Omega.{arith}
 use lib.ListN.{length}
-use lib.Pow.{pow_mono, pow_pos}
 use Rattle.bits.proofs.Orders.{le_or_lt}
-use Rattle.bits.specs.Masks.{Power, mask_of}
 use Rattle.blocks.specs.Blocks.{Block, Closed, Largest, block, blocks_of, prefix_of, words_of}
 use Rattle.blocks.specs.Lowest.{free_of}
 use Rattle.blocks.specs.declared.Word.{Word}
-use Rattle.blocks.proofs.Lowest.{first_block, free_le}
+use Rattle.blocks.proofs.Lowest.{first_block}
 use Rattle.blocks.proofs.Members.{tiles_list}
 use Rattle.blocks.proofs.Tiles.{tiles_none}
 use Rattle.intervals.specs.Walks.{Stepped, ended_at, gives, stepping, walk_after, walk_of, walked, word_then}
 use Rattle.intervals.specs.declared.walks.Walk.{Walk}
-use Rattle.intervals.proofs.Steps.{step_ended, step_good, gives_last, gives_on}
-use Rattle.intervals.proofs.Testing.{good_tested}
+use Rattle.intervals.proofs.Steps.{gave, gives_last, gives_on, step_ended, step_good}
 
 adds : ℕ → Stepped → List Word
 adds f s = word_then s.given s.word (walked f s.walk)
@@ -33,16 +30,13 @@ walked_more f w = refl
 pub walked_ended : (f : ℕ) (w : Walk) → w.ended ≡ true → walked f w ≡ []
 unfolding walked adds
 walked_ended zero w e = refl
-walked_ended (suc f) w e = ap (adds f) (sym (step_ended w e))
+walked_ended (suc f) w e = ap (adds f) (step_ended w e)
 
 -- and stays as it is
 pub after_ended : (f : ℕ) (w : Walk) → w.ended ≡ true → walk_after f w ≡ w
 unfolding walk_after
 after_ended zero w e = refl
-after_ended (suc f) w e = ap (λ (s : Stepped). walk_after f s.walk) (sym (step_ended w e)) ∙ after_ended f w e
-
-good_step : (n next last : ℕ) → Closed n next last → stepping (walk_of n next last) ≡ gives (walk_of n next last) (free_of n next (last + 1))
-good_step n next last c = sym (step_good (walk_of n next last) refl (good_tested n next last c))
+after_ended (suc f) w e = ap (λ (s : Stepped). walk_after f s.walk) (step_ended w e) ∙ after_ended f w e
 
 -- One step gives a largest block of next .. last that begins with the very next value, so none is lower.
 pub step_lowest : (n next last : ℕ) → Closed n next last
@@ -50,11 +44,7 @@ pub step_lowest : (n next last : ℕ) → Closed n next last
 step_lowest n next last c =
     let k = free_of n next (last + 1) in
     let e = first_block n next (last + 1) (omega arith) (omega arith) in
-    (k, (tiles_list n next (last + 1) (omega arith)).only (block next k) (rw e (Memᴰ.head refl)), good_step n next last c)
-
--- the word of the block of k free bits from next on was given, and the walk is now w
-abbrev gave : ℕ → ℕ → ℕ → Walk → Stepped
-gave n next k w = record { no = 0; given = 1; word = prefix_of n (block next k); walk = w }
+    (k, (tiles_list n next (last + 1) (omega arith)).only (block next k) (rw e (Memᴰ.head refl)), step_good n next last c)
 
 -- The first step gives the list's first block: the walk goes on behind it, or it was the only one and the walk has ended.
 data Begins (n next last : ℕ) : Type 0 where
@@ -71,16 +61,13 @@ begins n next last c = go (le_or_lt (next + 2 ^ k) last)
     first : blocks_of n next last ≡ block next k ∷ blocks_of n (next + 2 ^ k) last
     first = first_block n next (last + 1) (omega arith) (omega arith)
 
-    power : Power k (2 ^ k)
-    power = record { is = refl; some = pow_pos k; small = omega (arith, pow_mono (free_le n next (last + 1)), pow_mono c.most) }
-
     go : (next + 2 ^ k ≤ last) ⊎ (last < next + 2 ^ k) → Begins n next last
     go (inl l) =
         goes_on k first (record { some = c.some; most = c.most; fits = c.fits; order = l })
-        (good_step n next last c ∙ sym (gives_on (walk_of n next last) k (mask_of n k) (2 ^ k) refl power l))
+        (step_good n next last c ∙ gives_on n next last k l)
     go (inr l) =
         ends k (first ∙ ap (λ (bs : List Block). block next k ∷ bs) (tiles_none n 0 (next + 2 ^ k) (last + 1) (omega arith)))
-        (good_step n next last c ∙ sym (gives_last (walk_of n next last) k (mask_of n k) (2 ^ k) refl power l))
+        (step_good n next last c ∙ gives_last n next last k l)
 
 some_block : (n next last : ℕ) → Closed n next last → 1 ≤ length (blocks_of n next last)
 some_block n next last c = omega (arith, ap length (first_block n next (last + 1) (omega arith) (omega arith)))

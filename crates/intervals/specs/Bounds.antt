@@ -1,5 +1,5 @@
 -- Open bounds (A, B) and the closed interval A + 1 .. B - 1 (document 01, "Intervals and words").
-use Rattle.std.specs.Prelude.{Bool, ◌&&◌, ◌||◌, not, Option, None, Some, Result, ℕ, zero, suc, ◌+◌, ◌-◌, ◌^◌, ltb, ℤ, pos, negsuc, ◌+ℤ◌, nat_abs, if◌then◌else◌}
+use Rattle.std.specs.Prelude.{Bool, ◌&&◌, ◌||◌, not, Option, None, Some, Result, ℕ, zero, suc, ◌+◌, ◌^◌, ltb, ℤ, pos, negsuc, ◌+ℤ◌, nat_abs, if◌then◌else◌}
 use Rattle.std.specs.Int.Signed.{le_z, lt_z}
 use Rattle.answers.specs.Answers.{answer_of, done, refused}
 use Rattle.answers.specs.Refusals as refusal

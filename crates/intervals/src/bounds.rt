@@ -30,6 +30,7 @@ fn place_of(a: i32, top: u32) -> Option<u32>
     Some(past)
 }
 
+#[tactic(auto, unfolding(crate::specs::Bounds::closing))]
 pub fn close(n: u32, a: i32, b: i32) -> Result<Closed, Fault>
     ensures { closed_as result ≡ closing n a b }
 {

@@ -36,24 +36,14 @@ fn first_ill(n: u32, words: &[[u16; 2]]) -> Option<usize>
     requires { n ≤ 16 }
     ensures { result ≡ first_ill n 0 (words_in words.now) }
 {
-    for (i, pair) in words.iter().enumerate() {
-        if !word_of(*pair).formed(n) {
-            return Some(i);
-        }
-    }
-    None
+    words.iter().position(|pair| !word_of(*pair).formed(n))
 }
 
 // One of the words matches x.
 fn some_match(words: &[[u16; 2]], x: u16) -> bool
     ensures { result ≡ some? (words_in words.now) x }
 {
-    for pair in words {
-        if word_of(*pair).matches(x) {
-            return true;
-        }
-    }
-    false
+    words.iter().any(|pair| word_of(*pair).matches(x))
 }
 
 // The interval and the words agree at x.
@@ -69,15 +59,11 @@ fn agrees(interval: Interval, words: &[[u16; 2]], x: u32) -> bool
 fn first_difference(interval: Interval, words: &[[u16; 2]]) -> Option<u32>
     ensures { verdict_as result ≡ verdict (2 ^ interval.width) 0 interval.low interval.high (words_in words.now) }
 {
-    for x in 0..bits::power(interval.width) {
-        if !agrees(interval, words, x) {
-            return Some(x);
-        }
-    }
-    None
+    (0..bits::power(interval.width)).find(|x| !agrees(interval, words, *x))
 }
 
 // Nothing where the first k words match exactly the interval, else the smallest value on which they disagree.
+#[tactic(auto, using(crate::proofs::Pairs::words_pairs), unfolding(crate::specs::Checks::checking, crate::specs::Checks::judged, crate::specs::Ends::behind, answers::specs::Answers::behind_ill))]
 pub fn check(n: u32, low: u32, high: u32, list: &[u16], k: usize) -> Result<Option<u32>, CheckError>
     ensures { checked_as result ≡ checking n low high list.now k }
 {

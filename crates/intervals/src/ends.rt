@@ -13,6 +13,7 @@ pub enum Fault {
     Order,
 }
 
+#[tactic(auto, unfolding(crate::specs::Ends::tested))]
 pub fn test_ends(n: u32, low: u32, high: u32) -> Result<Interval, Fault>
     ensures { Tests n low high result }
 {

@@ -24,6 +24,7 @@ pub struct Step {
 
 impl Walk {
     // The next word with the walk after it, or nothing where the walk has ended.
+    #[tactic(auto, unfolding(crate::specs::Walks::stepping, crate::specs::Walks::stepped_from))]
     pub fn step(self) -> Result<Option<Step>, Fault>
         ensures { stepped_as self result ≡ stepping self }
     {
@@ -36,6 +37,7 @@ impl Walk {
 }
 
 // The lowest word of what is left, and the walk after it.
+#[tactic(auto, unfolding(crate::specs::Walks::gives))]
 fn forward(left: Interval) -> Step
     ensures { stepped_by result ≡ gives (walk_of left.width left.low left.high) (free_of left.width left.low (left.high + 1)) }
 {

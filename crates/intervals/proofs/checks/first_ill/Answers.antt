@@ -1,19 +1,13 @@
--- `intervals::checks::first_ill` meets its contract: the answer stays that of the words that are left. Assumes nothing.
-use mathlib.Core.Path.{sym, ◌∙◌}
-use native.Mathlib.Omega.{arith}
-use Rattle.intervals.proofs.Judging.{ill_start, ill_turn, ill_here, ill_none}
+-- `intervals::checks::first_ill` meets its contract: what is found is the first ill-formed word. Assumes nothing.
+use Rattle.std.proofs.Common.{rules, tests, not, ◌∙◌}
+use Rattle.std.proofs.lemmas.Iterator.{YieldsList-from_slice}
+use Rattle.std.proofs.lemmas.Iterator.Search.{position_from_yields_List}
+use Rattle.blocks.specs.Tests.{formed?}
+use Rattle.intervals.specs.Checks.{word_in}
+use Rattle.intervals.proofs.Found.{ill_position}
 use Rattle.intervals.proofs.checks.first_ill.Goals as goal
 
-pub loop-i-init : goal.loop-i-init
-loop-i-init c = (omega arith, ill_start _ _ _)
-
-pub loop-i-preserved : goal.loop-i-preserved
-loop-i-preserved c =
-    (omega arith, c.loop-i.invariant.1 ∙ ill_turn _ _ _ _ (omega arith) c.formed.ensures c.if-formed.true)
-
-pub returns-else-formed : goal.returns-else-formed
-returns-else-formed c =
-    sym (c.loop-i.invariant.1 ∙ ill_here _ _ _ _ (omega arith) c.formed.ensures c.if-formed.false)
-
 pub returns : goal.returns
-returns c = sym (c.loop-i.invariant.1 ∙ ill_none _ _ _ _ (omega arith))
+returns c =
+    position_from_yields_List (λ p. not (formed? c.args.n (word_in p))) _ _ _ c.position.ensures.ran (YieldsList-from_slice c.args.words.now cc) (λ x b q k. search (rules, tests))
+    ∙ ill_position word_in _ _

@@ -1,19 +1,14 @@
--- `intervals::checks::some_match` meets its contract: the answer stays that of the words that are left. Assumes nothing.
-use mathlib.Core.Path.{sym, ◌∙◌}
-use native.Mathlib.Omega.{arith}
-use Rattle.intervals.proofs.Judging.{some_start, some_turn, some_here, some_none}
+-- `intervals::checks::some_match` meets its contract: one of the list's pairs is a word that matches.
+-- Assumes nothing.
+use Rattle.std.proofs.Common.{rules, tests, ◌∙◌}
+use Rattle.std.proofs.lemmas.Iterator.{YieldsList-from_slice}
+use Rattle.std.proofs.lemmas.Iterator.Search.{any_from_yields_List}
+use Rattle.blocks.specs.Tests.{matches?}
+use Rattle.intervals.specs.Checks.{word_in}
+use Rattle.intervals.proofs.Found.{some_any}
 use Rattle.intervals.proofs.checks.some_match.Goals as goal
 
-pub loop-i-init : goal.loop-i-init
-loop-i-init c = (omega arith, some_start _ _ _)
-
-pub returns-then-x-list : goal.returns-then-x-list
-returns-then-x-list c =
-    sym (c.loop-i.invariant.1 ∙ some_here _ _ _ _ (omega arith) c.if-x-list.true)
-
-pub loop-i-preserved : goal.loop-i-preserved
-loop-i-preserved c =
-    (omega arith, c.loop-i.invariant.1 ∙ some_turn _ _ _ _ (omega arith) c.if-x-list.false)
-
 pub returns : goal.returns
-returns c = sym (c.loop-i.invariant.1 ∙ some_none _ _ _ _ (omega arith))
+returns c =
+    any_from_yields_List (λ p. matches? (word_in p) c.args.x) _ _ _ c.any.ensures.ran (YieldsList-from_slice c.args.words.now cc) (λ x b q k. search (rules, tests))
+    ∙ some_any word_in _ _

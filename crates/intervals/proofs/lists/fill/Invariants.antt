@@ -1,10 +1,10 @@
--- The loop of `intervals::lists::fill`: at each turn what is written and the words that are left make up the list.
-use Prim.Native.Nat.{◌-◌}
+-- The loop of `intervals::lists::fill`: the words that are left, written behind those that are given, make up the list.
+use Rattle.blocks.specs.Walked.{words_left}
+use Rattle.intervals.specs.Lists.{numbers_of}
 use Rattle.intervals.proofs.Filling.{Filled}
 use Rattle.intervals.proofs.lists.fill.Given as goal
 
-abbrev pub invariant-loop-next : goal.invariant-loop-next
-invariant-loop-next l = Filled l.n l.low l.end l.initial.out l.out l.next l.i
-
-abbrev pub decreases-loop-next : goal.decreases-loop-next
-decreases-loop-next l = l.end - l.next
+abbrev pub invariant-loop-i : goal.invariant-loop-i
+invariant-loop-i l =
+    let interval = l.fn.interval in
+    Filled l.fn.out (numbers_of interval.width interval.low interval.high) l.out l.i-iterator.count (words_left l.i-iterator.iter)
