@@ -1,5 +1,5 @@
 -- Ternary words and what they match (document 01, "Intervals and words"; source document 002, section 2).
-use Rattle.std.specs.Prelude.{◌⊎◌, ◌≡◌, ℕ, ◌-◌, ◌^◌, ◌≤◌, ◌<◌}
+use Rattle.std.specs.Prelude.{◌⊎◌, ◌≡◌, ℕ, ◌-◌, ◌^◌, ◌≤◌, ◌<◌, get_or}
 use mathlib.Core.List.{List, [], ◌∷◌, Memᴰ}
 use Rattle.bits.specs.Digits.{bit}
 use Rattle.bits.specs.Masks.{mask_of}
@@ -7,6 +7,10 @@ use Rattle.blocks.specs.declared.Word.{Word}
 
 abbrev pub word : ℕ → ℕ → Word
 word value mask = record { value = value; mask = mask }
+
+-- a word as two numbers, value and mask
+abbrev pub word_in : List ℕ → Word
+word_in pair = word (get_or pair 0 0) (get_or pair 1 0)
 
 -- x and the word's value agree at every 1 of the mask
 abbrev pub Matches : Word → ℕ → Type 0

@@ -5,6 +5,7 @@
 ghost use Rattle.std.specs.Prelude.{◌≡◌, ◌≤◌};
 ghost use Rattle.blocks.specs.Lowest.{Free};
 ghost use Rattle.blocks.specs.Tests.{formed?, matches?};
+ghost use Rattle.blocks.specs.Words.{word_in};
 
 mod intervals;
 mod patterns;
@@ -38,6 +39,16 @@ impl Word {
         ensures { result ≡ matches? self x }
     {
         x & self.mask == self.value
+    }
+}
+
+// A word as two numbers, value and mask.
+impl From<[u16; 2]> for Word {
+    ghost from_gives = { λ pair word. word ≡ word_in pair };
+
+    fn from(pair: [u16; 2]) -> Word {
+        let [value, mask] = pair;
+        Word { value, mask }
     }
 }
 

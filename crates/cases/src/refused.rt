@@ -25,11 +25,7 @@ impl fmt::Display for Refused {
 
 impl From<Fault> for Refused {
     fn from(fault: Fault) -> Refused {
-        Refused::Plain(match fault {
-            Fault::Width => Refusal::Width,
-            Fault::Fit => Refusal::Fit,
-            Fault::Order => Refusal::Order,
-        })
+        Refused::Plain(fault.into())
     }
 }
 

@@ -8,7 +8,8 @@ use native.Mathlib.Nat.{add-zero}
 use Rattle.std.proofs.Common.{drop-drop, get_or-drop}
 use Rattle.std.specs.Simd.{first_chunks}
 use Rattle.blocks.specs.Words.{word}
-use Rattle.intervals.specs.Checks.{word_at, word_in, words_from, words_in}
+use Rattle.blocks.specs.Words.{word_in}
+use Rattle.intervals.specs.Checks.{word_at, words_from, words_in}
 
 take_chunks : {X : Type 0} (n k m : ℕ) (xs : List X) → k ≤ m → take k (first_chunks n m xs) ≡ first_chunks n k xs
 take_chunks n zero m xs h = refl

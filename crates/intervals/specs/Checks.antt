@@ -6,7 +6,7 @@ use Rattle.answers.specs.Refusals as refusal
 use Rattle.answers.specs.declared.Answer.{Answer}
 use Rattle.blocks.specs.Tests.{formed?, some?}
 use Rattle.blocks.specs.Words as words
-use Rattle.blocks.specs.Words.{word}
+use Rattle.blocks.specs.Words.{word, word_in}
 use Rattle.blocks.specs.declared.Word.{Word}
 use Rattle.intervals.specs.Ends.{behind, fault_as, tested}
 use Rattle.intervals.specs.declared.checks.CheckError.{CheckError}
@@ -31,9 +31,6 @@ abbrev pub check_refused : Fault → CheckError
 check_refused f = Ends f
 
 -- words as pairs of numbers, value then mask
-abbrev pub word_in : List ℕ → Word
-word_in pair = word (get_or pair 0 0) (get_or pair 1 0)
-
 abbrev pub words_in : List (List ℕ) → List Word
 words_in = map word_in
 

@@ -5,6 +5,7 @@ use Rattle.answers.specs.Refusals as refusal
 use Rattle.answers.specs.declared.Answer.{Answer}
 use Rattle.intervals.specs.declared.ends.Fault.{Fault}
 use Rattle.intervals.specs.declared.ends.Fault.TheVariants.{Width, Fit, Order}
+use Rattle.blocks.specs.Walked.{Is}
 use Rattle.blocks.specs.declared.intervals.Interval.{Interval}
 
 abbrev pub number_of : Fault → ℕ
@@ -32,12 +33,6 @@ behind (Err f) a = fault_as f
 abbrev pub verdict_of : Result Interval Fault → Result Unit Fault
 verdict_of (Ok i) = Ok tt
 verdict_of (Err f) = Err f
-
--- this is the interval of width n from low to high
-pub record Is (n low high : ℕ) (i : Interval) : Type 0 where
-  pub width : i.width ≡ n
-  pub low_end : i.low ≡ low
-  pub high_end : i.high ≡ high
 
 -- the promise of the tests: what they say, and the interval that they hand out
 pub record Tests (n low high : ℕ) (r : Result Interval Fault) : Type 0 where

@@ -4,6 +4,7 @@ use Rattle.bits.specs.Masks.{mask_of}
 use Rattle.blocks.specs.Lowest.{free_of}
 use Rattle.blocks.specs.Words.{word}
 use Rattle.blocks.specs.declared.Word.{Word}
+use Rattle.blocks.specs.declared.intervals.Interval.{Interval}
 use Rattle.intervals.specs.Ends.{number_of, tested}
 use Rattle.intervals.specs.declared.ends.Fault.{Fault}
 use Rattle.intervals.specs.declared.walks.Step.{Step}
@@ -29,6 +30,11 @@ ended_at n low high = record { width = n; next = low; last = high; ended = true 
 -- document 01's number and values for each answer to the walk w, which comes back where no word was given
 abbrev pub stepped_by : Step → Stepped
 stepped_by s = record { no = 0; given = 1; word = s.word; walk = s.walk }
+
+-- the walk of which this is left
+abbrev pub walk_behind : Walk → Option Interval → Walk
+walk_behind w None = record { width = w.width; next = w.next; last = w.last; ended = true }
+walk_behind w (Some i) = record { width = w.width; next = i.low; last = w.last; ended = w.ended }
 
 abbrev pub stepped_as : Walk → Result (Option Step) Fault → Stepped
 stepped_as w (Ok (Some s)) = stepped_by s

@@ -1,7 +1,7 @@
 // Somebody else's ternary words against an interval (document 01, "Checking a list").
 ghost use Rattle.std.specs.Prelude.{◌≡◌, ◌^◌, ◌≤◌, ◌<◌};
 ghost use Rattle.blocks.specs.Tests.{some?};
-ghost use Rattle.intervals.specs.Checks.{agree?, check_refused, checked_as, checking, first_ill, verdict, verdict_as, word_in, words_in};
+ghost use Rattle.intervals.specs.Checks.{agree?, check_refused, checked_as, checking, first_ill, verdict, verdict_as, words_in};
 
 use crate::ends::{Fault, test_ends};
 use blocks::{Interval, Word};
@@ -23,27 +23,19 @@ impl From<Fault> for CheckError {
     }
 }
 
-// A word of two numbers, value and mask.
-fn word_of(pair: [u16; 2]) -> Word
-    ensures { result ≡ word_in pair }
-{
-    let [value, mask] = pair;
-    Word { value, mask }
-}
-
 // The lowest index of an ill-formed word.
 fn first_ill(n: u32, words: &[[u16; 2]]) -> Option<usize>
     requires { n ≤ 16 }
     ensures { result ≡ first_ill n 0 (words_in words.now) }
 {
-    words.iter().position(|pair| !word_of(*pair).formed(n))
+    words.iter().position(|pair| !Word::from(*pair).formed(n))
 }
 
 // One of the words matches x.
 fn some_match(words: &[[u16; 2]], x: u16) -> bool
     ensures { result ≡ some? (words_in words.now) x }
 {
-    words.iter().any(|pair| word_of(*pair).matches(x))
+    words.iter().any(|pair| Word::from(*pair).matches(x))
 }
 
 // The interval and the words agree at x.

@@ -1,6 +1,9 @@
 // The tests of an interval's width and ends, which every call on intervals makes first (document 01's 1, 2 and 3).
-ghost use Rattle.intervals.specs.Ends.{Tests};
+ghost use Rattle.std.specs.Prelude.{◌≡◌};
+ghost use Rattle.answers.specs.Refusals as refusal;
+ghost use Rattle.intervals.specs.Ends.{Tests, number_of};
 
+use answers::Refusal;
 use blocks::Interval;
 
 #[derive(Clone, Copy, Debug, PartialEq, Eq)]
@@ -11,6 +14,18 @@ pub enum Fault {
     Fit,
     // 3: the ends are crossed.
     Order,
+}
+
+impl From<Fault> for Refusal {
+    ghost from_gives = { λ fault why. refusal.number_of why ≡ number_of fault };
+
+    fn from(fault: Fault) -> Refusal {
+        match fault {
+            Fault::Width => Refusal::Width,
+            Fault::Fit => Refusal::Fit,
+            Fault::Order => Refusal::Order,
+        }
+    }
 }
 
 #[tactic(auto, unfolding(crate::specs::Ends::tested))]

@@ -1,12 +1,10 @@
 // From each call's outcome to document 01's number and values.
 ghost use Rattle.std.specs.Prelude.{◌≡◌, ◌%◌, ◌^◌};
 ghost use Rattle.answers.specs.Answers.{answer_of, one_number};
-ghost use Rattle.answers.specs.Refusals as refusal;
 ghost use Rattle.intervals.specs.Bounds.{ends_as};
 ghost use Rattle.intervals.specs.Checks.{check_error_as, verdict_as};
-ghost use Rattle.intervals.specs.Ends.{fault_as, number_of};
+ghost use Rattle.intervals.specs.Ends.{fault_as};
 ghost use Rattle.intervals.specs.Lists.{list_error_as};
-ghost use Rattle.records.specs.Actions.{action_number};
 ghost use Rattle.rules.specs.Faults.{list_fault_as};
 ghost use Rattle.rules.specs.Finding.{find_error_as};
 ghost use Rattle.sheets.specs.Reading.{sheet_error_as};
@@ -100,21 +98,11 @@ impl ToAnswer for tables::Found {
     }
 }
 
-pub fn why(fault: Fault) -> Refusal
-    ensures { refusal.number_of result ≡ number_of fault }
-{
-    match fault {
-        Fault::Width => Refusal::Width,
-        Fault::Fit => Refusal::Fit,
-        Fault::Order => Refusal::Order,
-    }
-}
-
 impl ToAnswer for Fault {
     ghost says = { fault_as };
 
     fn answer(self) -> Answer {
-        Answer::refused(why(self), 0, 0)
+        Answer::refused(self.into(), 0, 0)
     }
 }
 

@@ -3,7 +3,7 @@ ghost use Rattle.std.specs.Prelude.{◌≡◌};
 ghost use Rattle.intervals.specs.Walks.{stepped_as};
 ghost use Rattle.tablet.specs.Faces.{face_of, handed_in, handed_out};
 
-use crate::convert::why;
+use answers::Refusal;
 use intervals::Fault;
 
 #[repr(C)]
@@ -72,7 +72,7 @@ impl Step {
                 walk: w,
             },
             Err(fault) => Step {
-                no: why(fault).into(),
+                no: Refusal::from(fault).into(),
                 given: 0,
                 value: 0,
                 mask: 0,

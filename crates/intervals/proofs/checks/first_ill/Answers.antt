@@ -3,7 +3,7 @@ use Rattle.std.proofs.Common.{rules, tests, not, ◌∙◌}
 use Rattle.std.proofs.lemmas.Iterator.{YieldsList-from_slice}
 use Rattle.std.proofs.lemmas.Iterator.Search.{position_from_yields_List}
 use Rattle.blocks.specs.Tests.{formed?}
-use Rattle.intervals.specs.Checks.{word_in}
+use Rattle.blocks.specs.Words.{word_in}
 use Rattle.intervals.proofs.Found.{ill_position}
 use Rattle.intervals.proofs.checks.first_ill.Goals as goal
 

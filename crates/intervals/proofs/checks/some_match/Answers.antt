@@ -4,7 +4,7 @@ use Rattle.std.proofs.Common.{rules, tests, ◌∙◌}
 use Rattle.std.proofs.lemmas.Iterator.{YieldsList-from_slice}
 use Rattle.std.proofs.lemmas.Iterator.Search.{any_from_yields_List}
 use Rattle.blocks.specs.Tests.{matches?}
-use Rattle.intervals.specs.Checks.{word_in}
+use Rattle.blocks.specs.Words.{word_in}
 use Rattle.intervals.proofs.Found.{some_any}
 use Rattle.intervals.proofs.checks.some_match.Goals as goal
 
