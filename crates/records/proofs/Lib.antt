@@ -1,2 +1,4 @@
 pub mod Layouts
 pub mod Reading
+pub mod Chunks
+pub mod ReadBack

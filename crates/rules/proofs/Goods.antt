@@ -2,19 +2,19 @@
 use mathlib.Core.Bool.{Bool, true, false}
 use mathlib.Core.List.{List, [], ◌∷◌}
 use mathlib.Core.Path.{◌≡◌, refl, sym, ◌∙◌}
-use Prim.Native.Nat.{ℕ, ◌+◌, ◌-◌, ◌/◌, ◌%◌, ◌^◌, ◌≤◌, ◌<◌}
+use Prim.Native.Nat.{ℕ, zero, suc, ◌+◌, ◌-◌, ◌/◌, ◌%◌, ◌^◌, ◌≤◌, ◌<◌}
 use native.Mathlib.Omega.{arith}
 use lib.Dec.{eqb}
-use lib.ListN.{length}
+use lib.ListN.{get_or, length}
 use borrow.Author.Tests.{eq-eqb, eqb-true, ltb-false, not-false}
-use Rattle.std.specs.Prelude.{if◌then◌else◌}
+use Rattle.std.specs.Prelude.{Ok, Err, if◌then◌else◌}
 use Rattle.records.specs.Layout.{rule_limit, rule_size}
-use Rattle.records.specs.Rules.{all_rules}
+use Rattle.records.specs.Rules.{all_rules, rule_at}
 use Rattle.records.specs.declared.Rule.{Rule}
-use Rattle.rules.specs.Faults.{bad_field, faults, first_bad, first_true, tested_rules}
+use Rattle.rules.specs.Faults.{bad_field, faults, field_numbered, first_bad, first_true, tested_rules}
+use Rattle.rules.specs.Lists.{NoneBad, rules_in}
 use Rattle.rules.specs.declared.faults.ListFault.{ListFault}
 use Rattle.rules.specs.declared.faults.ListFault.TheVariants.{Odd, Many, Bad}
-use Rattle.rules.specs.declared.faults.ListTest.TheVariants.{Good, Refused}
 use Rattle.rules.proofs.Testing.{tested_each, tested_past}
 
 -- ---- a rule
@@ -60,14 +60,31 @@ fine r e =
 -- ---- rules
 
 -- the first is good, and so are those after it
-pub good_next : (i : ℕ) (r : Rule) (rs : List Rule) → first_bad i (r ∷ rs) ≡ Good → (bad_field r ≡ 0) × (first_bad (i + 1) rs ≡ Good)
+pub good_next : (i : ℕ) (r : Rule) (rs : List Rule) → first_bad i (r ∷ rs) ≡ Ok tt → (bad_field r ≡ 0) × (first_bad (i + 1) rs ≡ Ok tt)
 unfolding first_bad
 good_next i r rs e = go (eqb (bad_field r) 0) refl e
   where
-    go : (b : Bool) → eqb (bad_field r) 0 ≡ b → (if b then first_bad (i + 1) rs else Refused (Bad i (bad_field r))) ≡ Good
-        → (bad_field r ≡ 0) × (first_bad (i + 1) rs ≡ Good)
+    go : (b : Bool) → eqb (bad_field r) 0 ≡ b → (if b then first_bad (i + 1) rs else Err (Bad i (field_numbered (bad_field r)))) ≡ Ok tt
+        → (bad_field r ≡ 0) × (first_bad (i + 1) rs ≡ Ok tt)
     go true z w = (eqb-true (bad_field r) 0 z, w)
-    go false z w = let n : ◌≡◌ {A = ℕ} 0 1 = cc in absurd (omega arith)
+    go false z w = cc
+
+-- ---- the rules of records
+
+-- where none is bad, each rule is fine
+pub fine_at : (records : List (List ℕ)) → NoneBad records → (i : ℕ) → i < length records → Fine (rule_at (get_or records i []))
+fine_at records g i h = fine (rule_at (get_or records i [])) (g i h)
+
+-- a list whose test is passed has no bad rule, and the other way round
+pub none_bad : (j : ℕ) (records : List (List ℕ)) → first_bad j (rules_in records) ≡ Ok tt → NoneBad records
+none_bad j [] e i h = absurd (omega arith)
+none_bad j (s ∷ ss) e zero h = (good_next j (rule_at s) (rules_in ss) e).0
+none_bad j (s ∷ ss) e (suc i) h = none_bad (j + 1) ss (good_next j (rule_at s) (rules_in ss) e).1 i (omega arith)
+
+pub bad_none : (j : ℕ) (records : List (List ℕ)) → NoneBad records → first_bad j (rules_in records) ≡ Ok tt
+unfolding first_bad
+bad_none j [] g = refl
+bad_none j (s ∷ ss) g = rw (eq-eqb (bad_field (rule_at s)) 0 (g 0 (omega arith))) (bad_none (j + 1) ss (λ (i : ℕ) (h : i < length ss). g (suc i) (omega arith)))
 
 -- ---- a list
 
@@ -75,16 +92,16 @@ good_next i r rs e = go (eqb (bad_field r) 0) refl e
 pub record GoodList (l : List ℕ) : Type 0 where
   pub whole : length l % rule_size ≡ 0
   pub few : length l / rule_size ≤ rule_limit
-  pub good : first_bad 0 (all_rules l) ≡ Good
+  pub good : first_bad 0 (all_rules l) ≡ Ok tt
 
 module _ (l : List ℕ) where
-  not_refused : (f : ListFault) → tested_rules l ≡ Good → tested_rules l ≡ Refused f → ⊥
-  not_refused f e g = let z : ◌≡◌ {A = ℕ} 0 1 = cc in omega arith
+  not_refused : (f : ListFault) → tested_rules l ≡ Ok tt → tested_rules l ≡ Err f → ⊥
+  not_refused f e g = cc
 
-  pub good_list : tested_rules l ≡ Good → GoodList l
+  pub good_list : tested_rules l ≡ Ok tt → GoodList l
   good_list e =
       let p = tested_past l (not_refused Odd e) (not_refused Many e) in
       record { whole = p.0; few = p.1; good = sym (tested_each l p.0 p.1) ∙ e }
 
-  pub list_good : GoodList l → tested_rules l ≡ Good
+  pub list_good : GoodList l → tested_rules l ≡ Ok tt
   list_good g = tested_each l g.whole g.few ∙ g.good

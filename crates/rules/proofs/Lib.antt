@@ -1,9 +1,5 @@
-pub mod Powers
+pub mod Fields
 pub mod Testing
-pub mod Matching
 pub mod Goods
-pub mod Going
-pub mod Turning
-pub mod Answering
 pub mod Lowest
 pub mod Settled

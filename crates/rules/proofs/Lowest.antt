@@ -4,32 +4,47 @@ use mathlib.Core.List.Memᴰ
 use mathlib.Core.List.{List, [], ◌∷◌, Memᴰ}
 use mathlib.Core.Logic.{◌⊎◌, inl, inr}
 use mathlib.Core.Path.{◌≡◌, refl, sym, ap, ◌∙◌}
-use Prim.Native.Nat.{ℕ, zero, suc, ◌+◌, ◌<◌}
+use Prim.Native.Nat.{ℕ, zero, suc, ◌+◌, ◌≤◌, ◌<◌}
 use native.Mathlib.Omega.{arith}
 use lib.Dec.{eqb}
-use lib.ListN.{get_or}
+use lib.ListN.{get_or, length}
 use borrow.Author.Tests.{eqb-true, eqb-false}
-use Rattle.std.specs.Prelude.{if◌then◌else◌}
+use Rattle.std.specs.Prelude.{Err, if◌then◌else◌}
 use Rattle.records.specs.Rules.{all_rules}
 use Rattle.records.specs.declared.Rule.{Rule}
-use Rattle.rules.specs.Faults.{bad_field, faults, first_bad, first_true, tested_rules}
+use Rattle.rules.specs.Faults.{bad_field, faults, field_number, field_numbered, first_bad, first_true, tested_rules}
 use Rattle.rules.specs.Lowest.{FirstTest, LowestBad}
+use Rattle.rules.specs.declared.faults.Field.{Field}
 use Rattle.rules.specs.declared.faults.ListFault.TheVariants.{Odd, Many, Bad}
-use Rattle.rules.specs.declared.faults.ListTest.TheVariants.{Refused}
+use Rattle.rules.proofs.Fields.{field_some, number_back}
 use Rattle.rules.proofs.Testing.{tested_each, tested_past}
 
 -- ---- the rule
 
-pub lowest_bad : (j : ℕ) (rs : List Rule) (i f : ℕ) → first_bad j rs ≡ Refused (Bad i f) → LowestBad rs j i f
+-- a bad field's number is at most 9
+first_true_within : (i : ℕ) (bs : List Bool) → 0 < i → first_true i bs < i + length bs
+unfolding first_true
+first_true_within i [] h = omega arith
+first_true_within i (true ∷ bs) h = omega arith
+first_true_within i (false ∷ bs) h = omega (arith, first_true_within (i + 1) bs (omega arith))
+
+bad_within : (r : Rule) → bad_field r ≤ 9
+unfolding bad_field
+bad_within r = omega (arith, first_true_within 1 (faults r) (omega arith))
+
+pub lowest_bad : (j : ℕ) (rs : List Rule) (i : ℕ) (f : Field) → first_bad j rs ≡ Err (Bad i f) → LowestBad rs j i (field_number f)
 unfolding first_bad
-lowest_bad j [] i f e = let z : ◌≡◌ {A = ℕ} 0 1 = cc in absurd (omega arith)
+lowest_bad j [] i f e = absurd (cc)
 lowest_bad j (r ∷ rs) i f e = go (eqb (bad_field r) 0) refl e (lowest_bad (j + 1) rs i f)
   where
-    go : (b : Bool) → eqb (bad_field r) 0 ≡ b → (if b then first_bad (j + 1) rs else Refused (Bad j (bad_field r))) ≡ Refused (Bad i f)
-        → (first_bad (j + 1) rs ≡ Refused (Bad i f) → LowestBad rs (j + 1) i f) → LowestBad (r ∷ rs) j i f
+    go : (b : Bool) → eqb (bad_field r) 0 ≡ b
+        → (if b then first_bad (j + 1) rs else Err (Bad j (field_numbered (bad_field r)))) ≡ Err (Bad i f)
+        → (first_bad (j + 1) rs ≡ Err (Bad i f) → LowestBad rs (j + 1) i (field_number f)) → LowestBad (r ∷ rs) j i (field_number f)
     go false z w below =
         let p : j ≡ i = cc in
-        let q : bad_field r ≡ f = cc in
+        let g : field_numbered (bad_field r) ≡ f = cc in
+        let some : bad_field r ≡ 0 → ⊥ = eqb-false (bad_field r) 0 z in
+        let q : bad_field r ≡ field_number f = sym (number_back (bad_field r) (omega arith) (bad_within r)) ∙ ap field_number g in
         record {
           before = [];
           bad = r;
@@ -37,7 +52,7 @@ lowest_bad j (r ∷ rs) i f e = go (eqb (bad_field r) 0) refl e (lowest_bad (j +
           splits = refl;
           number = omega arith;
           field = q;
-          some = λ (x : f ≡ 0). eqb-false (bad_field r) 0 z (q ∙ x);
+          some = field_some f;
           fine = λ (s : Rule) (m : Memᴰ s []). absurd (Memᴰ.not-nil m);
         }
     go true z w below =
@@ -58,12 +73,9 @@ lowest_bad j (r ∷ rs) i f e = go (eqb (bad_field r) 0) refl e (lowest_bad (j +
         each s ss h (inr m) = h m
 
 -- the same of the answer to a list of bytes
-pub lowest_tested : (l : List ℕ) (i f : ℕ) → tested_rules l ≡ Refused (Bad i f) → LowestBad (all_rules l) 0 i f
+pub lowest_tested : (l : List ℕ) (i : ℕ) (f : Field) → tested_rules l ≡ Err (Bad i f) → LowestBad (all_rules l) 0 i (field_number f)
 lowest_tested l i f e =
-    let p =
-    tested_past l
-    (λ (a : tested_rules l ≡ Refused Odd). let z : ◌≡◌ {A = ℕ} 0 1 = cc in omega arith)
-    (λ (a : tested_rules l ≡ Refused Many). let z : ◌≡◌ {A = ℕ} 0 1 = cc in omega arith) in
+    let p = tested_past l (λ (a : tested_rules l ≡ Err Odd). cc) (λ (a : tested_rules l ≡ Err Many). cc) in
     lowest_bad 0 (all_rules l) i f (sym (tested_each l p.0 p.1) ∙ e)
 
 -- ---- its field

@@ -6,17 +6,23 @@ use mathlib.Core.Path.{◌≡◌, refl, sym, ap, ◌∙◌}
 use Prim.Native.Nat.{ℕ}
 use native.Mathlib.Omega.{arith}
 use lib.Dec.{eqb}
+use Rattle.std.specs.Prelude.{IfOk, Option, None, Some, Result, Ok, Err, if◌then◌else◌}
 use Rattle.answers.proofs.ReadBack.{back}
 use Rattle.answers.specs.Refusals as refusal
 use Rattle.answers.specs.declared.Answer.{Answer}
-use Rattle.std.specs.Prelude.{if◌then◌else◌}
-use Rattle.rules.specs.Faults.{list_fault_as, tested_rules}
+use Rattle.records.specs.Rules.{all_rules}
+use Rattle.records.specs.declared.Rule.{Rule}
+use Rattle.records.proofs.ReadBack.{action_back, action_from}
+use Rattle.rules.specs.Faults.{field_numbered, list_fault_as, tested_rules}
 use Rattle.rules.specs.Finding.{finding, found_as}
+use Rattle.rules.specs.Lists.{rules_in, tested_as}
 use Rattle.rules.specs.declared.faults.ListFault.{ListFault}
 use Rattle.rules.specs.declared.faults.ListFault.TheVariants.{Odd, Many, Bad}
-use Rattle.rules.specs.declared.faults.ListTest.{ListTest}
+use Rattle.rules.specs.declared.finding.FindError.{FindError}
+use Rattle.rules.specs.declared.finding.FindError.TheVariants.{Rules, Header}
 use Rattle.rules.specs.declared.finding.Found.{Found}
-use Rattle.rules.specs.declared.finding.Found.TheVariants as found
+use Rattle.rules.specs.declared.lists.RuleList.{RuleList}
+use Rattle.rules.proofs.Fields.{field_back}
 
 -- ---- reading back
 
@@ -24,28 +30,28 @@ pub list_fault_from : Answer → ListFault
 list_fault_from r =
     if eqb r.no refusal.odd then Odd
     else if eqb r.no refusal.many then Many
-    else Bad r.a r.b
+    else Bad r.a (field_numbered r.b)
 
-found_from : Answer → Found
+found_from : Answer → Result (Option Found) FindError
 found_from r =
-    if eqb r.no 0 then (if eqb r.a 0 then found.Nothing else found.Rule r.b r.c)
-    else if eqb r.no refusal.header then found.Header
-    else found.Refused (list_fault_from r)
+    if eqb r.no 0 then (if eqb r.a 0 then Ok None else Ok (Some (record { rule = r.b; action = action_from r.c })))
+    else if eqb r.no refusal.header then Err Header
+    else Err (Rules (list_fault_from r))
 
 pub fault_back : (f : ListFault) → list_fault_from (list_fault_as f) ≡ f
 unfolding list_fault_from
 fault_back Odd = refl
 fault_back Many = refl
-fault_back (Bad i f) = refl
+fault_back (Bad i f) = ap (Bad i) (field_back f)
 
-found_back : (r : Found) → found_from (found_as r) ≡ r
+found_back : (r : Result (Option Found) FindError) → found_from (found_as r) ≡ r
 unfolding found_from
-found_back (found.Rule i a) = refl
-found_back found.Nothing = refl
-found_back (found.Refused Odd) = ap found.Refused (fault_back Odd)
-found_back (found.Refused Many) = ap found.Refused (fault_back Many)
-found_back (found.Refused (Bad i f)) = ap found.Refused (fault_back (Bad i f))
-found_back found.Header = refl
+found_back (Ok None) = refl
+found_back (Ok (Some f)) = rw (action_back f.action)
+found_back (Err Header) = refl
+found_back (Err (Rules Odd)) = ap (λ (f : ListFault). Err (Rules f)) (fault_back Odd)
+found_back (Err (Rules Many)) = ap (λ (f : ListFault). Err (Rules f)) (fault_back Many)
+found_back (Err (Rules (Bad i f))) = ap (λ (f : ListFault). Err (Rules f)) (fault_back (Bad i f))
 
 -- a refusal's number is not that of an answer
 pub fault_some : (f : ListFault) → (list_fault_as f).no ≡ 0 → ⊥
@@ -55,8 +61,22 @@ fault_some (Bad i f) e = omega arith
 
 -- ---- two outcomes
 
-pub one_test : (l : List ℕ) (r s : ListTest) → r ≡ tested_rules l → s ≡ tested_rules l → r ≡ s
-one_test l r s p q = p ∙ sym q
+-- the rules of the list that a test hands out, or its fault
+abbrev pub rules_as : Result RuleList ListFault → Result (List Rule) ListFault
+rules_as (Ok x) = Ok (rules_in x.records.now)
+rules_as (Err f) = Err f
 
-pub one_find : (l h : List ℕ) (r s : Found) → found_as r ≡ finding l h → found_as s ≡ finding l h → r ≡ s
+module _ (l : List ℕ) where
+  -- what the contract of `test_rules` says of an outcome
+  pub record TestedAs (r : Result RuleList ListFault) : Type 0 where
+    pub says : tested_as r ≡ tested_rules l
+    pub holds : IfOk r (λ (x : RuleList). rules_in x.records.now ≡ all_rules l)
+
+  pub one_test : (r s : Result RuleList ListFault) → TestedAs r → TestedAs s → rules_as r ≡ rules_as s
+  one_test (Ok x) (Ok y) p q = ap Ok (p.holds ∙ sym q.holds)
+  one_test (Ok x) (Err f) p q = cc
+  one_test (Err e) (Ok y) p q = cc
+  one_test (Err e) (Err f) p q = cc
+
+pub one_find : (l h : List ℕ) (r s : Result (Option Found) FindError) → found_as r ≡ finding l h → found_as s ≡ finding l h → r ≡ s
 one_find l h = back found_as found_from found_back (finding l h)

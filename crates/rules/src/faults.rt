@@ -42,6 +42,7 @@ pub enum ListFault {
 }
 
 // The first bad field of a rule.
+#[tactic(auto, unfolding(crate::specs::Faults::bad_field, crate::specs::Faults::first_true))]
 fn bad_field(r: Rule) -> Option<Field>
     ensures { field_or_0 result ≡ bad_field r }
 {
@@ -83,6 +84,7 @@ fn bad_field(r: Rule) -> Option<Field>
     None
 }
 
+#[tactic(auto, using(records::proofs::Chunks::rules_chunks), unfolding(crate::specs::Faults::tested_rules, crate::specs::Faults::first_bad))]
 pub fn test_rules(rules: &[u8]) -> Result<RuleList<'_>, ListFault>
     ensures says { tested_as result ≡ tested_rules rules.now }
     ensures holds { IfOk result (λ list. rules_in list.records.now ≡ all_rules rules.now) }

@@ -36,6 +36,7 @@ fn port_matches(low: u16, high: u16, x: u16) -> bool
     low <= x && x <= high
 }
 
+#[tactic(auto, unfolding(crate::specs::Meaning::rule_match))]
 fn rule_matches(r: Rule, h: Key) -> bool
     requires { (r.slen ≤ 32) × (r.dlen ≤ 32) }
     ensures { result ≡ rule_match r h }
@@ -56,6 +57,7 @@ fn rule_matches(r: Rule, h: Key) -> bool
 }
 
 // Reads a well-formed list from the top.
+#[tactic(auto, using(crate::proofs::Goods::fine_at), unfolding(crate::specs::Meaning::first_rule))]
 fn first_rule(list: RuleList<'_>, h: Key) -> Option<Found>
     ensures { rule_found result ≡ first_rule 0 (rules_in list.entry.records.now) h }
 {
@@ -72,6 +74,7 @@ fn first_rule(list: RuleList<'_>, h: Key) -> Option<Found>
 }
 
 // The first matching rule, or nothing where none matches.
+#[tactic(auto, unfolding(crate::specs::Finding::finding, crate::specs::Finding::finding_good, crate::specs::Faults::behind_rules))]
 pub fn find_rule(rules: &[u8], header: &[u8]) -> Result<Option<Found>, FindError>
     ensures { found_as result ≡ finding rules.now header.now }
 {

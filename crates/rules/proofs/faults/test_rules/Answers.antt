@@ -1,29 +1,30 @@
--- `rules::faults::test_rules` meets its contract: the answer stays that of the rules that are left. Assumes nothing.
+-- `rules::faults::test_rules` meets its contract: the rules that are left decide. Assumes nothing.
+use mathlib.Core.Path.{◌≡◌, sym, ◌∙◌}
+use Prim.Native.Nat.{◌%◌}
 use native.Mathlib.Omega.{arith}
-use lib.ListN.{length-drop, length-take}
-use Rattle.rules.proofs.Testing.{tested_many, tested_odd}
-use Rattle.rules.proofs.Turning.{tested_bad, tested_end, tested_start, tested_turn}
+use lib.ListN.{length}
+use borrow.Author.Tests.{eqb-true}
+use Rattle.records.specs.Layout.{rule_size}
+use Rattle.rules.proofs.Goods.{none_bad}
+use Rattle.rules.proofs.Testing.{bad_here, bad_past, tested_records}
 use Rattle.rules.proofs.faults.test_rules.Goals as goal
+use Rattle.rules.proofs.faults.test_rules.Goals.{Else-not-is_empty}
 
-pub returns-then-rules-ne0 : goal.returns-then-rules-ne0
-returns-then-rules-ne0 c = tested_odd _ c.if-rules-ne0.true
+-- past the first test the length is a multiple of a rule's
+whole : (c : Else-not-is_empty) → length c.args.rules.now % rule_size ≡ 0
+whole c = omega (arith, eqb-true _ _ (sym c.is_empty.ensures ∙ c.if-not-is_empty.false))
 
-pub returns-then-n-gt-RULE_LIMIT : goal.returns-then-n-gt-RULE_LIMIT
-returns-then-n-gt-RULE_LIMIT c = tested_many _ c.if-rules-ne0.false (omega arith)
+pub returns-in-Some-clause-says : goal.returns-in-Some-clause-says
+returns-in-Some-clause-says c =
+    sym
+    (tested_records _ (whole (goal.at.returns-in-Some-clause-says c).Else-not-is_empty) (omega arith) _ c.as_chunks.ensures.front
+    ∙ c.loop-i.invariant ∙ bad_here _ _ (omega arith) _ c.from_bytes.ensures _ c.in-Some.ensures)
 
-pub loop-i-init : goal.loop-i-init
-loop-i-init c = tested_start _ c.if-rules-ne0.false (omega arith)
+pub invariant_of-result : goal.invariant_of-result
+invariant_of-result c = record { few = omega arith; good = none_bad 0 _ (c.loop-i.invariant ∙ bad_past _ _ (omega arith)) }
 
-pub read_rule-requires : goal.read_rule-requires
-read_rule-requires c = simp (length-take, length-drop) (omega arith)
-
-pub returns-then-f-ne0 : goal.returns-then-f-ne0
-returns-then-f-ne0 c =
-    tested_bad _ _ _ c.loop-i.invariant _ _ (omega arith) c.read_rule.ensures c.bad_field-f.ensures c.if-f-ne0.true
-
-pub loop-i-preserved : goal.loop-i-preserved
-loop-i-preserved c =
-    tested_turn _ _ _ c.loop-i.invariant _ _ (omega arith) c.read_rule.ensures c.bad_field-f.ensures c.if-f-ne0.false
-
-pub returns : goal.returns
-returns c = tested_end _ _ _ c.loop-i.invariant (omega arith)
+pub returns-clause-says : goal.returns-clause-says
+returns-clause-says c =
+    sym
+    (tested_records _ (whole (goal.at.returns-clause-says c).Else-not-is_empty) (omega arith) _ c.as_chunks.ensures.front
+    ∙ c.loop-i.invariant ∙ bad_past _ _ (omega arith))
