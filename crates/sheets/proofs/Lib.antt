@@ -1,16 +1,4 @@
-pub mod Cutting
-pub mod Comparing
-pub mod MarksSoFar
-pub mod DigitsSoFar
-pub mod Joining
-pub mod Words
-pub mod Assembling
-pub mod RowFields
-pub mod Rests
-pub mod Passing
-pub mod Lines
 pub mod RuleSizes
-pub mod LinesLeft
 pub mod Marks
 pub mod Decimals
 pub mod FieldText
@@ -21,6 +9,5 @@ pub mod RuleBack
 pub mod Settled
 pub mod FirstField
 pub mod Unread
-pub mod Verdicts
 pub mod SheetText
 pub mod FirstBadLine
