@@ -1,5 +1,7 @@
 pub mod RuleSizes
 pub mod Marks
+pub mod Places
+pub mod DigitsSoFar
 pub mod Decimals
 pub mod FieldText
 pub mod AddressText
