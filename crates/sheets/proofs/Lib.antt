@@ -1,6 +1,8 @@
 pub mod RuleSizes
 pub mod Marks
 pub mod Places
+pub mod Words
+pub mod Joining
 pub mod DigitsSoFar
 pub mod Decimals
 pub mod FieldText
