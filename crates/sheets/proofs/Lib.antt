@@ -3,6 +3,7 @@ pub mod Marks
 pub mod Places
 pub mod Words
 pub mod Joining
+pub mod RowFields
 pub mod DigitsSoFar
 pub mod Decimals
 pub mod FieldText
