@@ -4,6 +4,7 @@ pub mod Places
 pub mod Words
 pub mod Joining
 pub mod RowFields
+pub mod Passing
 pub mod DigitsSoFar
 pub mod Decimals
 pub mod FieldText
