@@ -1,4 +1,6 @@
 pub mod RuleSizes
+pub mod Lines
+pub mod LinesLeft
 pub mod Marks
 pub mod Places
 pub mod Words
