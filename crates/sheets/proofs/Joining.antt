@@ -1,18 +1,17 @@
 -- The numbers of an address or of a port interval put together: each return of the code is one of the tests' cases.
 -- Assumes nothing.
-use mathlib.Core.Bool.{Bool, true, false, ◌&&◌, and-false}
+use mathlib.Core.Bool.{true, false, and-false}
 use mathlib.Core.List.{List}
 use mathlib.Core.Logic.{⊎_elim}
-use mathlib.Core.Path.{◌≡◌, refl, ap, ◌∙◌}
+use mathlib.Core.Path.{◌≡◌, refl, ◌∙◌}
 use Prim.Native.Nat.{ℕ, ◌≤◌, ◌<◌}
 use native.Mathlib.Omega.{arith}
-use lib.Dec.{leb}
 use borrow.Author.Tests.{le-leb, lt-leb}
 use Rattle.bits.proofs.Orders.{le_or_lt}
 use Rattle.records.specs.Prefixes.{beyond?}
 use Rattle.sheets.specs.Cuts.{after, before}
 use Rattle.sheets.specs.Numbers.{none, number_of}
-use Rattle.sheets.specs.Parts.{Address, address_of, bad_address, bad_ports, bits_of, dash, dot, joined, octet_of, paired, ports_of, slash}
+use Rattle.sheets.specs.Parts.{address_of, bad_address, bad_ports, bits_of, dash, dot, joined, octet_of, paired, ports_of, slash}
 
 -- ---- addresses
 

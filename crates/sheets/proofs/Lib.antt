@@ -17,5 +17,6 @@ pub mod RuleBack
 pub mod Settled
 pub mod FirstField
 pub mod Unread
+pub mod Verdicts
 pub mod SheetText
 pub mod FirstBadLine

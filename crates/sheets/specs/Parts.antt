@@ -8,7 +8,7 @@ use Rattle.records.specs.Prefixes.{beyond?}
 use Rattle.records.specs.declared.actions.Action.{Action}
 use Rattle.records.specs.declared.prefixes.Prefix.{Prefix}
 use Rattle.sheets.specs.Cuts.{after, before}
-use Rattle.sheets.specs.Numbers.{none, number_of, number_or_none}
+use Rattle.sheets.specs.Numbers.{none, number_of}
 use Rattle.sheets.specs.declared.parts.Ports as ports
 use Rattle.sheets.specs.declared.parts.Protocol.{Protocol}
 use Rattle.sheets.specs.declared.parts.Protocol.TheVariants.{Any, Exact}

@@ -1,6 +1,4 @@
 -- `sheets::cuts::count` meets its contract: what the filter leaves is counted. Assumes nothing.
-use Prim.Native.Nat.{ℕ}
-use lib.Dec.{eqb}
 use mathlib.Core.Path.{◌∙◌}
 use borrow.Author.Rules.{rules}
 use borrow.Author.Tests.{tests}
@@ -10,7 +8,7 @@ use Rattle.sheets.proofs.Places.{mark?, times_is}
 use Rattle.sheets.proofs.cuts.count.Goals as goal
 
 pub returns : goal.returns
-returns c = 
+returns c =
     count_from_yields_List c.filter.result c.count.result c.count.ensures.ran
     (YieldsList-from_filter _ (mark? c.args.c) (YieldsList-at c.filter.ensures.source (YieldsList-from_slice c.args.s.now cc)) c.filter.ensures.closure (λ x r q k. search (rules, tests)))
     ∙ times_is c.args.c c.args.s.now

@@ -16,7 +16,7 @@ returns-in_err-i c =
     rw c.from_residual.ensures (rw c.in_err-i.was at h)
 
 pub returns : goal.returns
-returns c = 
+returns c =
     let h = placed c.args.c c.args.s.now c.position.result
     (position_from_yields_List (λ (x : ℕ). eqb x c.args.c) _ _ c.position.result c.position.ensures.ran (YieldsList-from_slice c.args.s.now cc)
     (λ x b q k. search (rules, tests))) in
