@@ -7,7 +7,7 @@ use native.Mathlib.Omega.{arith}
 use lib.Dec.{leb}
 use borrow.Author.Tests.{le-leb, leb-true, not-true}
 use Rattle.std.specs.Prelude.{if◌then◌else◌}
-use Rattle.rules.specs.Faults.{beyond?}
+use Rattle.records.specs.Prefixes.{beyond?}
 use Rattle.sheets.specs.Cuts.{after, before, times}
 use Rattle.sheets.specs.Numbers.{number_of}
 use Rattle.sheets.specs.Parts.{address_of, bad_address, bits_of, dot, joined, slash}

@@ -2,25 +2,23 @@
 use mathlib.Core.Bool.{Bool, true, false, not}
 use mathlib.Core.List.{List, ◌∷◌, ◌++◌}
 use mathlib.Core.Logic.{◌⊎◌, inl, inr}
-use mathlib.Core.Path.{◌≡◌, refl, sym, ap, subst, ◌∙◌}
+use mathlib.Core.Path.{◌≡◌, refl, ap, subst, ◌∙◌}
 use Prim.Native.Nat.{ℕ, ◌+◌, ◌-◌, ◌*◌, ◌/◌, ◌%◌, ◌^◌, ◌≤◌, ◌<◌}
 use native.Mathlib.Omega.{arith}
 use lib.Dec.{eqb}
 use borrow.Author.Tests.{eq-eqb, eqb-true, le-ltb, ltb-false, not-false}
 use Rattle.bits.proofs.Orders.{le_or_lt}
-use Rattle.std.specs.Prelude.{if◌then◌else◌}
+use Rattle.std.specs.Prelude.{Ok, Err, if◌then◌else◌}
 use Rattle.records.specs.declared.Rule.{Rule}
 use Rattle.rules.proofs.Goods.{fine}
-use Rattle.rules.proofs.Testing.{none_bad, past_dst, past_proto, past_src}
-use Rattle.rules.specs.Faults.{spare?}
+use Rattle.rules.specs.Faults.{bad_field, first_true, spare?}
+use Rattle.records.specs.Prefixes.{beyond?}
 use Rattle.sheets.specs.BadLines.{bad_fields}
 use Rattle.sheets.specs.Cuts.{after, before, times}
 use Rattle.sheets.specs.Parts.{action_of, address_of, any, ports_of, protocol_of}
 use Rattle.sheets.specs.Rows.{of_fields, row_from, row_of, rule_of}
 use Rattle.sheets.specs.Text.{AddressSaid, GoodRule, PortsSaid, address_text, ports_text, protocol_text, rule_text}
-use Rattle.sheets.specs.Parts.{Address}
-use Rattle.sheets.specs.Parts.{Ports}
-use Rattle.sheets.specs.declared.rows.Row.TheVariants.{Good, Bad}
+use Rattle.sheets.specs.Parts.{Address, Ports}
 use Rattle.texts.specs.Lines.{action_text, line_feed, tab}
 use Rattle.sheets.proofs.AddressText.{address_said, address_text_lem, address_without}
 use Rattle.sheets.proofs.FieldText.{action_said, action_text_lem, action_without, ports_said, ports_text_lem, ports_without, protocol_said, protocol_text_lem, protocol_without}
@@ -45,7 +43,7 @@ protocol_most flag proto l z h = go (le_or_lt 1 flag)
     go (inl a) = omega (arith, z (omega arith))
     go (inr a) = omega arith
 
-pub row_text : {r : Rule} → GoodRule r → row_of (rule_text r) ≡ Good r
+pub row_text : {r : Rule} → GoodRule r → row_of (rule_text r) ≡ Ok r
 unfolding rule_text row_from
 row_text {r} g =
     let f = fine r g.fine in
@@ -97,7 +95,7 @@ record Fields (p : ℕ) (src dst : Address) (sports dports : Ports) (act : ℕ) 
   pub action : act ≤ 3
   pub rule : rule_of p src dst sports dports act ≡ r
 
-fields_good : (p : ℕ) (src dst : Address) (sports dports : Ports) (act : ℕ) (r : Rule) → row_from p src dst sports dports act ≡ Good r
+fields_good : (p : ℕ) (src dst : Address) (sports dports : Ports) (act : ℕ) (r : Rule) → row_from p src dst sports dports act ≡ Ok r
     → Fields p src dst sports dports act r
 unfolding row_from tested
 fields_good p src dst sports dports act r h =
@@ -124,14 +122,20 @@ module _ (p : ℕ) (src dst : Address) (sports dports : Ports) (act : ℕ) where
           rw (a, b)
       go (inr l) = let a : p / any ≡ 0 = omega arith in rw a
 
+  -- a rule whose tests are all passed
+  all_fine : p / any ≤ 1 → spare? (rule_of p src dst sports dports act) ≡ false → src.len ≤ 32 → beyond? src.bits src.len ≡ false → dst.len ≤ 32
+      → beyond? dst.bits dst.len ≡ false → sports.low ≤ sports.high → dports.low ≤ dports.high → act ≤ 3
+      → bad_field (rule_of p src dst sports dports act) ≡ 0
+  unfolding bad_field first_true
+  all_fine a b c d e f g h k =
+      rw (le-ltb 1 (p / any) a, b, le-ltb 32 src.len c, d, le-ltb 32 dst.len e, f, le-ltb sports.high sports.low g, le-ltb dports.high dports.low h, le-ltb 3 act k)
+
   rule_good : (s2 s3 s4 s5 : List ℕ) → p ≤ any → AddressSaid s2 src → AddressSaid s3 dst → PortsSaid s4 sports → PortsSaid s5 dports → act ≤ 3
       → GoodRule (rule_of p src dst sports dports act)
   rule_good s2 s3 s4 s5 h a b c d k =
       let r = rule_of p src dst sports dports act in
       record {
-        fine = sym (none_bad r
-            (past_dst r (past_src r (past_proto r (omega arith) (spare_none h)) a.short a.within) b.short b.within)
-            c.order d.order k);
+        fine = all_fine (omega arith) (spare_none h) a.short a.within b.short b.within c.order d.order k;
         fits = record {
           proto = omega arith;
           src = a.fits;
@@ -160,11 +164,11 @@ module _ (s : List ℕ) where
   abbrev s6 : List ℕ
   s6 = after tab s5
 
-  five_tabs : (r : Rule) → row_of s ≡ Good r → (times tab s ≡ 5) × (of_fields row_from s ≡ Good r)
+  five_tabs : (r : Rule) → row_of s ≡ Ok r → (times tab s ≡ 5) × (of_fields row_from s ≡ Ok r)
   unfolding row_of
   five_tabs r h = go (eqb (times tab s) 5) refl h
     where
-      go : (b : Bool) → eqb (times tab s) 5 ≡ b → (if not b then Bad 0 else of_fields row_from s) ≡ Good r → (times tab s ≡ 5) × (of_fields row_from s ≡ Good r)
+      go : (b : Bool) → eqb (times tab s) 5 ≡ b → (if not b then Err 0 else of_fields row_from s) ≡ Ok r → (times tab s ≡ 5) × (of_fields row_from s ≡ Ok r)
       go true z w = (eqb-true (times tab s) 5 z, w)
       go false z w = let n : ◌≡◌ {A = ℕ} 0 1 = cc in absurd (omega arith)
 
@@ -182,7 +186,7 @@ module _ (s : List ℕ) where
       let p5 = parted tab s5 (omega arith) in
       cc
 
-pub text_row : {s : List ℕ} {r : Rule} → row_of s ≡ Good r → (s ≡ rule_text r) × GoodRule r
+pub text_row : {s : List ℕ} {r : Rule} → row_of s ≡ Ok r → (s ≡ rule_text r) × GoodRule r
 unfolding rule_text
 text_row {s} {r} h =
     let t = five_tabs s r h in

@@ -7,12 +7,12 @@ use native.Mathlib.Omega.{arith}
 use lib.ListN.{length}
 use lib.Seq.{drop_at}
 use borrow.Author.Tests.{eq-eqb}
+use Rattle.std.specs.Prelude.{Ok}
 use Rattle.fields.proofs.Numbers.{at2_be2, at4_be4}
 use Rattle.records.specs.Layout.{rule_limit, rule_size}
 use Rattle.records.specs.Rules.{all_rules, list_bytes, rule_at, rule_bytes, rules_of}
 use Rattle.records.specs.declared.Rule.{Rule}
 use Rattle.rules.specs.Faults.{bad_field, first_bad, tested_rules}
-use Rattle.rules.specs.declared.faults.ListTest.TheVariants.{Good}
 use Rattle.rules.proofs.Goods.{list_good}
 use Rattle.sheets.specs.Text.{AllGood, GoodRule}
 use Rattle.sheets.proofs.RuleSizes.{length_rule, length_rules}
@@ -42,13 +42,13 @@ module _ (rs : List Rule) where
   pub rules_back : AllGood rs → all_rules (list_bytes rs) ≡ rs
   rules_back g = rw how_many (rules_of_lem rs g)
 
-none_bad : (i : ℕ) (rs : List Rule) → AllGood rs → first_bad i rs ≡ Good
+none_bad : (i : ℕ) (rs : List Rule) → AllGood rs → first_bad i rs ≡ Ok tt
 unfolding first_bad
 none_bad i [] g = refl
 none_bad i (r ∷ rs) g = rw (eq-eqb (bad_field r) 0 g.0.fine) (none_bad (i + 1) rs g.1)
 
 -- none of the refusals 5, 6 and 7
-pub never_refused : (rs : List Rule) → AllGood rs → length rs ≤ rule_limit → tested_rules (list_bytes rs) ≡ Good
+pub never_refused : (rs : List Rule) → AllGood rs → length rs ≤ rule_limit → tested_rules (list_bytes rs) ≡ Ok tt
 never_refused rs g h =
     list_good (list_bytes rs) (record {
       whole = omega (arith, length_rules rs);

@@ -6,18 +6,16 @@ use mathlib.Core.Path.{◌≡◌, refl}
 use Prim.Native.Nat.{ℕ, zero, suc, ◌+◌, ◌<◌}
 use native.Mathlib.Omega.{arith}
 use lib.ListN.{get_or}
-use Rattle.std.specs.Prelude.{if◌then◌else◌}
+use Rattle.std.specs.Prelude.{Result, Ok, Err, if◌then◌else◌}
 use Rattle.records.specs.declared.Rule.{Rule}
 use Rattle.rules.specs.Lowest.{FirstTest}
-use Rattle.sheets.specs.declared.rows.Row.{Row}
-use Rattle.sheets.specs.declared.rows.Row.TheVariants.{Good, Bad}
 
 -- the rule, or the number of the first test that holds, those being numbered from i on
-unfoldable pub tested : ℕ → List Bool → Rule → Row
-tested i [] r = Good r
-tested i (b ∷ bs) r = if b then Bad i else tested (i + 1) bs r
+unfoldable pub tested : ℕ → List Bool → Rule → Result Rule ℕ
+tested i [] r = Ok r
+tested i (b ∷ bs) r = if b then Err i else tested (i + 1) bs r
 
-pub tested_bad : (i : ℕ) (tests : List Bool) (r : Rule) (k : ℕ) → tested i tests r ≡ Bad k → FirstTest tests i k
+pub tested_bad : (i : ℕ) (tests : List Bool) (r : Rule) (k : ℕ) → tested i tests r ≡ Err k → FirstTest tests i k
 unfolding tested
 tested_bad i [] r k e = let z : ◌≡◌ {A = ℕ} 0 1 = cc in absurd (omega arith)
 tested_bad i (true ∷ bs) r k e =
@@ -32,7 +30,7 @@ tested_bad i (false ∷ bs) r k e = go (tested_bad (i + 1) bs r k e)
         early zero h = refl
         early (suc j) h = f.before j (omega arith)
 
-pub tested_good : (i : ℕ) (tests : List Bool) (q r : Rule) → tested i tests q ≡ Good r → (q ≡ r) × ((j : ℕ) → get_or tests j false ≡ false)
+pub tested_good : (i : ℕ) (tests : List Bool) (q r : Rule) → tested i tests q ≡ Ok r → (q ≡ r) × ((j : ℕ) → get_or tests j false ≡ false)
 unfolding tested
 tested_good i [] q r e = (cc, λ j. refl)
 tested_good i (true ∷ bs) q r e = let z : ◌≡◌ {A = ℕ} 0 1 = cc in absurd (omega arith)

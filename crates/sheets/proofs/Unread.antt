@@ -9,24 +9,20 @@ use native.Mathlib.Omega.{arith}
 use lib.ListN.{length}
 use borrow.Author.Tests.{ltb-true, ne_eqb}
 use Rattle.bits.proofs.Orders.{le_or_lt}
-use Rattle.std.specs.Prelude.{if◌then◌else◌}
+use Rattle.std.specs.Prelude.{Result, Ok, Err, if◌then◌else◌}
 use Rattle.records.specs.declared.Rule.{Rule}
 use Rattle.sheets.specs.BadLines.{Unended, Wrong}
 use Rattle.sheets.specs.Cuts.{after, before, times}
-use Rattle.sheets.specs.Reading.{after_lines, ended?, row_then, rows_of, rule_then, rules_read}
+use Rattle.sheets.specs.Reading.{BadAt, after_lines, bad_at, ended?, row_then, rows_of, rule_then, rules_read}
 use Rattle.sheets.specs.Rows.{row_of}
 use Rattle.sheets.specs.Text.{AllGood, rule_text, sheet_text}
-use Rattle.sheets.specs.declared.rows.Row.{Row}
-use Rattle.sheets.specs.declared.rows.Row.TheVariants as row
-use Rattle.sheets.specs.declared.rows.Rows.{Rows}
-use Rattle.sheets.specs.declared.rows.Rows.TheVariants as rows
 use Rattle.sheets.proofs.Marks.{before_none, parted}
 use Rattle.sheets.proofs.RowText.{text_row}
 use Rattle.texts.specs.Lines.{line_feed}
 
-abbrev left_then : Row → List ℕ → List ℕ → List ℕ
-left_then (row.Good r) rest s = rest
-left_then (row.Bad k) rest s = s
+abbrev left_then : Result Rule ℕ → List ℕ → List ℕ → List ℕ
+left_then (Ok r) rest s = rest
+left_then (Err k) rest s = s
 
 -- what is left of s from its first bad line on, or behind f lines where these are good
 unfoldable pub unread : ℕ → List ℕ → List ℕ
@@ -38,11 +34,11 @@ unread (suc f) s =
 -- ---- why the rest was not read
 
 -- what the verdict on f lines from the i-th on says where k rules were read from s
-abbrev Says : ℕ → ℕ → List ℕ → ℕ → List ℕ → Rows → Type 0
-Says f i s k rest (rows.Good n) = (n ≡ i + k) × (rest ≡ after_lines f s)
-Says f i s k rest (rows.Bad line field) = (line ≡ i + k + 1) × (Unended rest field ⊎ Wrong rest field)
+abbrev Says : ℕ → ℕ → List ℕ → ℕ → List ℕ → Result ℕ BadAt → Type 0
+Says f i s k rest (Ok n) = (n ≡ i + k) × (rest ≡ after_lines f s)
+Says f i s k rest (Err b) = (b.line ≡ i + k + 1) × (Unended rest b.field ⊎ Wrong rest b.field)
 
-pub record Parts (f i : ℕ) (s : List ℕ) (rs : List Rule) (rest : List ℕ) (v : Rows) : Type 0 where
+pub record Parts (f i : ℕ) (s : List ℕ) (rs : List Rule) (rest : List ℕ) (v : Result ℕ BadAt) : Type 0 where
   pub text : s ≡ sheet_text rs ++ rest
   pub good : AllGood rs
   pub few : length rs ≤ f
@@ -63,17 +59,17 @@ line_parted s e = parted line_feed s (go (le_or_lt (times line_feed s) 0))
     go (inl h) = absurd (omega (arith, ltb-true (length (before line_feed s)) (length s) e, ap length (before_none line_feed s (omega arith))))
     go (inr h) = h
 
-none_read : (f i : ℕ) (s : List ℕ) (v : Rows) → Says f i s 0 s v → Parts f i s [] s v
+none_read : (f i : ℕ) (s : List ℕ) (v : Result ℕ BadAt) → Says f i s 0 s v → Parts f i s [] s v
 unfolding sheet_text
 none_read f i s v h = record { text = refl; good = tt; few = omega arith; says = h }
 
 module _ (f i : ℕ) (s : List ℕ) where
-  says_next : (k : ℕ) (rest : List ℕ) (v : Rows) → Says f (i + 1) (after line_feed s) k rest v → Says (suc f) i s (suc k) rest v
+  says_next : (k : ℕ) (rest : List ℕ) (v : Result ℕ BadAt) → Says f (i + 1) (after line_feed s) k rest v → Says (suc f) i s (suc k) rest v
   unfolding after_lines
-  says_next k rest (rows.Good n) h = (omega arith, h.1)
-  says_next k rest (rows.Bad line field) h = (omega arith, h.1)
+  says_next k rest (Ok n) h = (omega arith, h.1)
+  says_next k rest (Err b) h = (omega arith, h.1)
 
-  line_read : (r : Rule) (rs : List Rule) (rest : List ℕ) (v : Rows) → ended? s ≡ true → row_of (before line_feed s) ≡ row.Good r
+  line_read : (r : Rule) (rs : List Rule) (rest : List ℕ) (v : Result ℕ BadAt) → ended? s ≡ true → row_of (before line_feed s) ≡ Ok r
       → Parts f (i + 1) (after line_feed s) rs rest v → Parts (suc f) i s (r ∷ rs) rest v
   unfolding sheet_text
   line_read r rs rest v e g p =
@@ -86,7 +82,7 @@ module _ (f i : ℕ) (s : List ℕ) where
       }
 
 rows_next : (f i x : ℕ) (s : List ℕ) → rows_of (suc f) i (x ∷ s)
-    ≡ (if not (ended? (x ∷ s)) then rows.Bad (i + 1) 0 else row_then (row_of (before line_feed (x ∷ s))) (i + 1) (rows_of f (i + 1) (after line_feed (x ∷ s))))
+    ≡ (if not (ended? (x ∷ s)) then Err (bad_at (i + 1) 0) else row_then (row_of (before line_feed (x ∷ s))) (i + 1) (rows_of f (i + 1) (after line_feed (x ∷ s))))
 unfolding rows_of
 rows_next f i x s = rw (ne_eqb (suc (length s)) 0 (λ (z : suc (length s) ≡ 0). omega arith))
 
@@ -94,8 +90,8 @@ rows_next f i x s = rw (ne_eqb (suc (length s)) 0 (λ (z : suc (length s) ≡ 0)
 
 pub parts : (f i : ℕ) (s : List ℕ) → Parts f i s (rules_read f s) (unread f s) (rows_of f i s)
 unfolding after_lines before rows_of rules_read unread
-parts zero i s = none_read zero i s (rows.Good i) (omega arith, refl)
-parts (suc f) i [] = none_read (suc f) i [] (rows.Good i) (omega arith, sym (lines_none (suc f)))
+parts zero i s = none_read zero i s (Ok i) (omega arith, refl)
+parts (suc f) i [] = none_read (suc f) i [] (Ok i) (omega arith, sym (lines_none (suc f)))
 parts (suc f) i (x ∷ s) = rw (rows_next f i x s) (go (ended? t) (row_of (before line_feed t)) refl refl (parts f (i + 1) u))
   where
     t : List ℕ
@@ -104,9 +100,9 @@ parts (suc f) i (x ∷ s) = rw (rows_next f i x s) (go (ended? t) (row_of (befor
     u : List ℕ
     u = after line_feed t
 
-    go : (b : Bool) (r : Row) → ended? t ≡ b → row_of (before line_feed t) ≡ r → Parts f (i + 1) u (rules_read f u) (unread f u) (rows_of f (i + 1) u)
+    go : (b : Bool) (r : Result Rule ℕ) → ended? t ≡ b → row_of (before line_feed t) ≡ r → Parts f (i + 1) u (rules_read f u) (unread f u) (rows_of f (i + 1) u)
         → Parts (suc f) i t (if b then rule_then r (rules_read f u) else []) (if b then left_then r (unread f u) t else t)
-        (if not b then rows.Bad (i + 1) 0 else row_then r (i + 1) (rows_of f (i + 1) u))
-    go false r e g p = none_read (suc f) i t (rows.Bad (i + 1) 0) (omega arith, inl (record { some = omega arith; endless = e; whole = refl }))
-    go true (row.Bad k) e g p = none_read (suc f) i t (rows.Bad (i + 1) k) (omega arith, inr (record { ended = e; says = g }))
-    go true (row.Good r) e g p = line_read f i t r (rules_read f u) (unread f u) (rows_of f (i + 1) u) e g p
+        (if not b then Err (bad_at (i + 1) 0) else row_then r (i + 1) (rows_of f (i + 1) u))
+    go false r e g p = none_read (suc f) i t (Err (bad_at (i + 1) 0)) (omega arith, inl (record { some = omega arith; endless = e; whole = refl }))
+    go true (Err k) e g p = none_read (suc f) i t (Err (bad_at (i + 1) k)) (omega arith, inr (record { ended = e; says = g }))
+    go true (Ok r) e g p = line_read f i t r (rules_read f u) (unread f u) (rows_of f (i + 1) u) e g p

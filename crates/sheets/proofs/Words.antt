@@ -1,27 +1,35 @@
--- Fields of words: each return of the code is one of the tests' cases. Assumes nothing.
-use mathlib.Core.Bool.{true, false}
-use mathlib.Core.List.{List}
-use mathlib.Core.Path.{◌≡◌}
-use Prim.Native.Nat.{ℕ, ◌≤◌, ◌<◌}
-use borrow.Author.Tests.{le-leb, lt-leb}
+-- Fields of words: what comparing slices answers is whether the texts are the same, and each return of the code is one of the
+-- tests' cases. Assumes nothing.
+use mathlib.Core.Bool.{Bool, true, false, ◌&&◌}
+use mathlib.Core.List.{List, [], ◌∷◌}
+use mathlib.Core.Path.{◌≡◌, refl, sym, ap, ◌∙◌}
+use Prim.Native.Nat.{ℕ}
+use lib.Dec.{eqb}
+use lib.Pointwise.{pointwise}
 use Rattle.fields.specs.Same.{same?}
-use Rattle.sheets.specs.Numbers.{none, number_of}
-use Rattle.sheets.specs.Parts.{action_of, any, no_action, protocol_of, star}
+use Rattle.sheets.specs.Numbers.{number_of}
+use Rattle.sheets.specs.Parts.{action_of, any, no_action, octet_of, protocol_of, star}
 use Rattle.texts.specs.Lines.{deny, deny_log, permit, permit_log}
+
+same_is : (s t : List ℕ) → same? s t ≡ pointwise eqb s t
+unfolding same?
+same_is [] [] = refl
+same_is [] (y ∷ t) = refl
+same_is (x ∷ s) [] = refl
+same_is (x ∷ s) (y ∷ t) = ap (λ (b : Bool). eqb x y && b) (same_is s t)
+
+-- u is the word t as a slice
+pub compared : {b : Bool} (s t u : List ℕ) → u ≡ t → b ≡ pointwise eqb s u → same? s t ≡ b
+compared s t u e p = same_is s t ∙ sym (rw e at p)
 
 module _ (s : List ℕ) where
   pub protocol_any : same? s star ≡ true → any ≡ protocol_of s
   unfolding protocol_of
   protocol_any e = simp e
 
-  module _ (e : same? s star ≡ false) (x : ℕ) (n : x ≡ number_of s) where
-    pub protocol_number : x ≤ 255 → x ≡ protocol_of s
-    unfolding protocol_of
-    protocol_number h = simp (e, ← n, le-leb x 255 h)
-
-    pub protocol_none : 255 < x → none ≡ protocol_of s
-    unfolding protocol_of
-    protocol_none h = simp (e, ← n, lt-leb x 255 h)
+  pub protocol_other : same? s star ≡ false → octet_of (number_of s) ≡ protocol_of s
+  unfolding protocol_of
+  protocol_other e = simp e
 
   pub action_permit : same? s permit ≡ true → 0 ≡ action_of s
   unfolding action_of

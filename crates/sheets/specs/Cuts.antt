@@ -1,5 +1,6 @@
 -- Text in parts: what stands before and after a mark.
-use Rattle.std.specs.Prelude.{Bor, List, [], ◌∷◌, ◌++◌, ◌≡◌, ℕ, suc, MatchOption, Option, eqb, if◌then◌else◌}
+use Rattle.std.specs.Prelude.{List, [], ◌∷◌, ◌++◌, ◌≡◌, ℕ, suc, MatchOption, Option, eqb, if◌then◌else◌}
+use Rattle.std.specs.Borrow.{Bor}
 
 -- the bytes before the first c, or all of them where there is none
 unfoldable pub before : ℕ → List ℕ → List ℕ

@@ -1,6 +1,6 @@
 -- The six fields of a line: protocol, two addresses, two port intervals, action. Document 01's tests of a rule are part of
 -- what makes a field good.
-use Rattle.std.specs.Prelude.{Bool, true, false, ◌&&◌, not, List, [], ◌∷◌, ℕ, ◌+◌, ◌*◌, Option, None, Some, get_or, leb, if◌then◌else◌}
+use Rattle.std.specs.Prelude.{Bool, true, false, ◌&&◌, not, List, [], ◌∷◌, ℕ, ◌+◌, ◌*◌, Option, None, Some, leb, if◌then◌else◌}
 use Rattle.fields.specs.Same.{same?}
 use Rattle.records.specs.Actions.{action_number}
 use Rattle.records.specs.Layout.{last_action}
@@ -8,7 +8,7 @@ use Rattle.records.specs.Prefixes.{beyond?}
 use Rattle.records.specs.declared.actions.Action.{Action}
 use Rattle.records.specs.declared.prefixes.Prefix.{Prefix}
 use Rattle.sheets.specs.Cuts.{after, before}
-use Rattle.sheets.specs.Numbers.{none, number_of, number_or_none}
+use Rattle.sheets.specs.Numbers.{none, number_of}
 use Rattle.sheets.specs.declared.parts.Ports as ports
 use Rattle.sheets.specs.declared.parts.Protocol.{Protocol}
 use Rattle.sheets.specs.declared.parts.Protocol.TheVariants.{Any, Exact}
@@ -108,16 +108,12 @@ protocol_as (Some Any) = any
 protocol_as (Some (Exact x)) = x
 
 -- a number of one byte, or none
-unfoldable pub octet_of : ℕ → ℕ
+abbrev pub octet_of : ℕ → ℕ
 octet_of x = if leb x 255 then x else none
 
 abbrev pub address_as : Option Prefix → Address
 address_as None = bad_address
 address_as (Some p) = record { good = true; bits = p.address; len = p.len }
-
--- the address of a list of four numbers
-abbrev pub joined_of : List ℕ → ℕ → Address
-joined_of octets len = joined (get_or octets 0 0) (get_or octets 1 0) (get_or octets 2 0) (get_or octets 3 0) len
 
 abbrev pub ports_as : Option ports.Ports → Ports
 ports_as None = bad_ports

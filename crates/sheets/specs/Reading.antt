@@ -87,8 +87,8 @@ abbrev pub read_as : Result ℕ SheetError → Answer
 read_as = answer_of one_number sheet_error_as
 
 -- a bad line as an error of reading
-abbrev pub bad_line : BadLine → SheetError
-bad_line b = Bad b.line b.part
+abbrev pub line_error : BadLine → SheetError
+line_error b = Bad b.line b.part
 
 -- the answer where the lines are tested, and so many bytes are lent
 unfoldable pub behind_rows : Result ℕ BadAt → ℕ → Answer

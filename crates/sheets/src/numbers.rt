@@ -20,6 +20,7 @@ fn digits(s: &[u8]) -> Option<u16>
 }
 
 // The number that s says: digits with no leading zero, at most 65535.
+#[tactic(auto, using(crate::proofs::DigitsSoFar::number_tests))]
 pub fn number(s: &[u8]) -> Option<u16>
     ensures { number_or_none result ≡ number_of s.now }
 {

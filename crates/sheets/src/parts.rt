@@ -34,21 +34,21 @@ fn octet(s: &[u8]) -> Option<u8>
 pub fn read_protocol(s: &[u8]) -> Option<Protocol>
     ensures { spec.protocol_as result ≡ spec.protocol_of s.now }
 {
-    if s == b"*" {
+    if s == b"*".as_slice() {
         return Some(Protocol::Any);
     }
     Some(Protocol::Exact(octet(s)?))
 }
 
-// The address of four octets and its length, where the length is in range and no bit is set beyond it.
-fn joined(octets: [u8; 4], len: u16) -> Option<Prefix>
-    ensures { spec.address_as result ≡ spec.joined_of octets.entry len }
+// The address of four numbers and its length, where the length is in range and no bit is set beyond it.
+fn joined(a: u8, b: u8, c: u8, d: u8, len: u16) -> Option<Prefix>
+    ensures { spec.address_as result ≡ spec.joined a b c d len }
 {
     if 32 < len {
         return None;
     }
     let prefix = Prefix {
-        address: u32::from_be_bytes(octets),
+        address: u32::from_be_bytes([a, b, c, d]),
         len: len as u8,
     };
     if prefix.beyond() {
@@ -64,7 +64,7 @@ pub fn read_address(s: &[u8]) -> Option<Prefix>
     let (b, rest) = halves(rest, b'.');
     let (c, rest) = halves(rest, b'.');
     let (d, len) = halves(rest, b'/');
-    joined([octet(a)?, octet(b)?, octet(c)?, octet(d)?], number(len)?)
+    joined(octet(a)?, octet(b)?, octet(c)?, octet(d)?, number(len)?)
 }
 
 pub fn read_ports(s: &[u8]) -> Option<Ports>
@@ -84,11 +84,15 @@ pub fn read_ports(s: &[u8]) -> Option<Ports>
 pub fn read_action(s: &[u8]) -> Option<Action>
     ensures { spec.action_as result ≡ spec.action_of s.now }
 {
-    match s {
-        b"permit" => Some(Action::Permit),
-        b"deny" => Some(Action::Deny),
-        b"permit-log" => Some(Action::PermitLog),
-        b"deny-log" => Some(Action::DenyLog),
-        _ => None,
+    if s == b"permit".as_slice() {
+        Some(Action::Permit)
+    } else if s == b"deny".as_slice() {
+        Some(Action::Deny)
+    } else if s == b"permit-log".as_slice() {
+        Some(Action::PermitLog)
+    } else if s == b"deny-log".as_slice() {
+        Some(Action::DenyLog)
+    } else {
+        None
     }
 }

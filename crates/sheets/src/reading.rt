@@ -1,7 +1,7 @@
 // Reading a sheet into lent memory. The rules are held until every line is known to be good and the memory to be large
 // enough, so that a refused call changes nothing and the text is gone through once.
 ghost use Rattle.std.specs.Prelude.{◌≡◌};
-ghost use Rattle.sheets.specs.Reading.{ReadRows, Reading, bad_line, many?, read_as};
+ghost use Rattle.sheets.specs.Reading.{ReadRows, Reading, line_error, many?, read_as};
 
 use crate::cuts::{cut, halves};
 use crate::rows::{Part, read_row};
@@ -32,7 +32,7 @@ pub struct BadLine {
 }
 
 impl From<BadLine> for SheetError {
-    ghost from_gives = { λ bad error. error ≡ bad_line bad };
+    ghost from_gives = { λ bad error. error ≡ line_error bad };
 
     fn from(bad: BadLine) -> SheetError {
         SheetError::Bad {

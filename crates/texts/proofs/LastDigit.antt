@@ -4,10 +4,9 @@ use mathlib.Core.Path.{◌≡◌, sym}
 use Prim.Native.Nat.{ℕ, ◌+◌, ◌/◌, ◌%◌, ◌≤◌, ◌<◌}
 use native.Mathlib.Omega.{arith}
 use lib.ListN.{length}
-use Rattle.fields.specs.Writes.{write_at}
 use Rattle.texts.specs.Decimal.{decimal}
 use Rattle.texts.specs.Lines.{Puts}
-use Rattle.texts.proofs.Behind.{puts_byte, puts_length, puts_none}
+use Rattle.texts.proofs.Behind.{puts_length, puts_none, puts_then}
 use Rattle.texts.proofs.Digits.{decimal_four, decimal_last, decimal_more}
 
 -- all digits of x but the last are put
@@ -35,10 +34,8 @@ module _ (d : List ℕ) (at x : ℕ) where
     within : r ≤ length d
     within = omega (arith, l.few, l.puts.next)
 
-    pub last_room : (r + 1 ≤ length e) × (length e ≡ length d)
-    last_room =
-        let same = puts_length d e at r l.digits l.puts within in
-        (omega (arith, l.few, l.puts.next), same)
+    pub last_room : r + 1 ≤ length e
+    last_room = omega (arith, l.few, l.puts.next, puts_length d e at r l.digits l.puts within)
 
-    pub last_put : (f : List ℕ) → f ≡ write_at e r ((48 + x % 10) ∷ []) → Puts d at (decimal x) (r + 1) f
-    last_put f w = rw l.all at (puts_byte d e at r l.digits l.puts within f (48 + x % 10) w)
+    pub last_put : (f : List ℕ) (k : ℕ) → Puts e r ((48 + x % 10) ∷ []) k f → Puts d at (decimal x) k f
+    last_put f k w = rw l.all at (puts_then d e at r l.digits l.puts within f k ((48 + x % 10) ∷ []) w)

@@ -50,11 +50,7 @@ pub fn put_hex(t: &mut [u8], at: usize, s: &[u8]) -> usize
     ensures { Puts t.old at (hex_of s.now) result t.new }
 {
     for (i, byte) in s.iter().enumerate() {
-        fields::put(
-            t,
-            at + 2 * i,
-            &[hex_digit(byte / 16), hex_digit(byte % 16)],
-        );
+        fields::put(t, at + 2 * i, &[hex_digit(byte / 16), hex_digit(byte % 16)]);
     }
     at + 2 * s.len()
 }

@@ -1,7 +1,6 @@
 -- `texts::put_decimal` meets its contract: the last digit goes behind those of a tenth of the number. Assumes nothing.
-use native.Mathlib.Omega.{arith}
-use Rattle.texts.proofs.LastDigit.{Earlier, earlier_more, earlier_none, last_put, last_room}
 use Prim.Native.Nat.{ℕ}
+use Rattle.texts.proofs.LastDigit.{Earlier, earlier_more, earlier_none, last_put, last_room}
 use Rattle.texts.proofs.+put_decimal.Goals as goal
 use Rattle.texts.proofs.+put_decimal.Goals.{Joined-x-ge10, then-x-ge10, else-x-ge10}
 
@@ -13,13 +12,9 @@ earlier t c =
       | else-x-ge10 w ↦ earlier_none _ _ _ _ _ w.if-x-ge10.false w.t-is w.to-is
     ]
 
-pub put1-requires : goal.put1-requires
-put1-requires t c = (last_room _ _ _ _ _ (earlier t (goal.at.put1-requires t c).Joined-x-ge10) c.requires.room).0
-
-pub overflow_add-result : goal.overflow_add-result
-overflow_add-result t c =
-    omega (arith, last_room _ _ _ _ _ (earlier t (goal.at.overflow_add-result t c).Joined-x-ge10) c.requires.room)
+pub put_text-requires : goal.put_text-requires
+put_text-requires t c = last_room _ _ _ _ _ (earlier t (goal.at.put_text-requires t c).Joined-x-ge10) c.requires.room
 
 pub returns : goal.returns
 returns t c =
-    last_put _ _ _ _ _ (earlier t (goal.at.returns t c).Joined-x-ge10) c.requires.room _ c.put1.ensures
+    last_put _ _ _ _ _ (earlier t (goal.at.returns t c).Joined-x-ge10) c.requires.room _ _ c.put_text.ensures

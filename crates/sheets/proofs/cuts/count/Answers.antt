@@ -1,18 +1,14 @@
--- `sheets::cuts::count` meets its contract: k marks stand before i. Assumes nothing.
-use native.Mathlib.Omega.{arith}
-use Rattle.sheets.proofs.MarksSoFar.{counting_start, counting_one, counting_other, counting_end}
+-- `sheets::cuts::count` meets its contract: what the filter leaves is counted. Assumes nothing.
+use mathlib.Core.Path.{◌∙◌}
+use borrow.Author.Rules.{rules}
+use borrow.Author.Tests.{tests}
+use Rattle.std.proofs.lemmas.Iterator.{YieldsList-from_slice}
+use Rattle.std.proofs.lemmas.Iterator.Consumers.{YieldsList-at, YieldsList-from_filter, count_from_yields_List}
+use Rattle.sheets.proofs.Places.{mark?, times_is}
 use Rattle.sheets.proofs.cuts.count.Goals as goal
-use Rattle.sheets.proofs.cuts.count.Goals.{then-s-i, else-s-i}
-
-pub loop-i-init : goal.loop-i-init
-loop-i-init c = counting_start _ _
-
-pub loop-i-preserved : goal.loop-i-preserved
-loop-i-preserved c =
-    elim c.if-s-i.branch [
-      | then-s-i w ↦ rw w.k-is (counting_one _ _ _ _ c.loop-i.invariant (omega arith) w.if-s-i.true)
-      | else-s-i w ↦ rw w.k-is (counting_other _ _ _ _ c.loop-i.invariant (omega arith) w.if-s-i.false)
-    ]
 
 pub returns : goal.returns
-returns c = counting_end _ _ _ _ c.loop-i.invariant (omega arith)
+returns c =
+    count_from_yields_List c.filter.result c.count.result c.count.ensures.ran
+    (YieldsList-from_filter _ (mark? c.args.c) (YieldsList-at c.filter.ensures.source (YieldsList-from_slice c.args.s.now cc)) c.filter.ensures.closure (λ x r q k. search (rules, tests)))
+    ∙ times_is c.args.c c.args.s.now

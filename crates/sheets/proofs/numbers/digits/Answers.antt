@@ -1,24 +1,22 @@
--- `sheets::numbers::digits` meets its contract: the digits before i say x. Assumes nothing.
+-- `sheets::numbers::digits` meets its contract: each turn takes one digit more. Assumes nothing.
+use mathlib.Core.Path.{sym, ◌∙◌}
 use native.Mathlib.Omega.{arith}
-use Rattle.sheets.proofs.DigitsSoFar.{said_start, said_end, said_low, said_high, said_large, said_more}
+use Rattle.sheets.proofs.DigitsSoFar.{said_end, said_large, said_more, said_other}
 use Rattle.sheets.proofs.numbers.digits.Goals as goal
 
-pub loop-i-init : goal.loop-i-init
-loop-i-init c = said_start _
+pub returns-then-not-is_ascii_digit : goal.returns-then-not-is_ascii_digit
+returns-then-not-is_ascii_digit c =
+    said_other _ _ _ c.loop-c.invariant c.loop-c-test.true (sym c.is_ascii_digit.ensures.value ∙ c.if-not-is_ascii_digit.true)
 
-pub returns-then-s-i-lt48 : goal.returns-then-s-i-lt48
-returns-then-s-i-lt48 c = said_low _ _ _ c.loop-i.invariant (omega arith) c.if-s-i-lt48.true
+pub returns-then-x-gt65535 : goal.returns-then-x-gt65535
+returns-then-x-gt65535 c =
+    said_large _ _ _ c.loop-c.invariant c.loop-c-test.true (sym c.is_ascii_digit.ensures.value ∙ c.if-not-is_ascii_digit.false) _
+    c.from.ensures (omega arith)
 
-pub returns-then-s-i-gt57 : goal.returns-then-s-i-gt57
-returns-then-s-i-gt57 c = said_high _ _ _ c.loop-i.invariant (omega arith) c.if-s-i-gt57.true
-
-pub returns-then-x-ge-NONE : goal.returns-then-x-ge-NONE
-returns-then-x-ge-NONE c =
-    said_large _ _ _ c.loop-i.invariant (omega arith) (omega arith) (omega arith) c.if-x-ge-NONE.true
-
-pub loop-i-preserved : goal.loop-i-preserved
-loop-i-preserved c =
-    said_more _ _ _ c.loop-i.invariant (omega arith) (omega arith) (omega arith) c.if-x-ge-NONE.false
+pub loop-c-preserved : goal.loop-c-preserved
+loop-c-preserved c =
+    said_more _ _ _ c.loop-c.invariant c.loop-c-test.true (sym c.is_ascii_digit.ensures.value ∙ c.if-not-is_ascii_digit.false) _
+    c.from.ensures (omega arith)
 
 pub returns : goal.returns
-returns c = said_end _ _ _ c.loop-i.invariant (omega arith)
+returns c = said_end _ _ _ c.loop-c.invariant (omega arith)

@@ -1,15 +1,21 @@
 -- `sheets::parts::read_ports` meets its contract: the numbers before and after a dash. Assumes nothing.
-use Rattle.sheets.specs.Numbers.{number_of}
-use Rattle.sheets.proofs.Assembling.{front, ports_parts}
-use Rattle.sheets.proofs.Cutting.{cut_back, cut_length, cut_next}
+use mathlib.Core.Path.{refl, ◌∙◌}
+use native.Mathlib.Omega.{arith}
+use Rattle.sheets.proofs.Joining.{high_none, low_none, paired_good, paired_order, ports_parts}
 use Rattle.sheets.proofs.parts.read_ports.Goals as goal
 
-pub slice_bounds-number-end : goal.slice_bounds-number-end
-slice_bounds-number-end c = cut_length c.cut-c.ensures
+pub returns-in_err-number : goal.returns-in_err-number
+returns-in_err-number c =
+    rw c.from_residual.ensures (low_none _ ∙ ports_parts _ c.halves.ensures c.in_err-number.ensures refl)
 
-pub slice_bounds-number-count : goal.slice_bounds-number-count
-slice_bounds-number-count c = cut_next c.cut-c.ensures
+pub returns-in_err-number-2 : goal.returns-in_err-number-2
+returns-in_err-number-2 c =
+    rw c.from_residual-in_err-number-2.ensures (high_none _ ∙ ports_parts _ c.halves.ensures refl c.in_err-number-2.ensures)
+
+pub returns-then-ports : goal.returns-then-ports
+returns-then-ports c =
+    paired_order _ _ c.if-ports.true ∙ ports_parts _ c.halves.ensures c.in_ok-number.ensures c.in_ok-number-2.ensures
 
 pub returns : goal.returns
 returns c =
-    ports_parts _ _ c.pair.ensures (cut_back c.cut-c.ensures) (front number_of c.cut-c.ensures c.number.ensures) c.number-2.ensures
+    paired_good _ _ c.if-ports.false (omega arith) ∙ ports_parts _ c.halves.ensures c.in_ok-number.ensures c.in_ok-number-2.ensures

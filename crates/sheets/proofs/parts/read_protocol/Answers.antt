@@ -1,13 +1,14 @@
--- `sheets::parts::read_protocol` meets its contract: a star or a small number. Assumes nothing.
-use mathlib.Core.Path.{sym, ◌∙◌}
-use Rattle.sheets.proofs.Words.{protocol_any, protocol_number, protocol_none}
+-- `sheets::parts::read_protocol` meets its contract: a star, or a number of one byte. Assumes nothing.
+use mathlib.Core.Path.{◌∙◌}
+use Rattle.sheets.proofs.Words.{compared, protocol_any, protocol_other}
 use Rattle.sheets.proofs.parts.read_protocol.Goals as goal
 
-pub returns-then-same : goal.returns-then-same
-returns-then-same c = protocol_any _ (sym c.same.ensures ∙ c.if-same.true)
+pub returns-then-eq : goal.returns-then-eq
+returns-then-eq c = protocol_any _ (compared _ _ _ c.as_slice.ensures c.if-eq.ensures)
 
-pub returns-then-x-le255 : goal.returns-then-x-le255
-returns-then-x-le255 c = protocol_number _ (sym c.same.ensures ∙ c.if-same.false) _ c.number-x.ensures c.if-x-le255.true
+pub returns-in_err-octet : goal.returns-in_err-octet
+returns-in_err-octet c =
+    rw c.from_residual.ensures (c.in_err-octet.ensures ∙ protocol_other _ (compared _ _ _ c.as_slice.ensures c.if-eq.ensures))
 
 pub returns : goal.returns
-returns c = protocol_none _ (sym c.same.ensures ∙ c.if-same.false) _ c.number-x.ensures c.if-x-le255.false
+returns c = c.in_ok-octet.ensures ∙ protocol_other _ (compared _ _ _ c.as_slice.ensures c.if-eq.ensures)
