@@ -12,9 +12,8 @@ use Rattle.answers.specs.Refusals as refusal
 use Rattle.answers.specs.declared.Answer.{Answer}
 use Rattle.std.specs.Prelude.{if◌then◌else◌}
 use Rattle.records.specs.Layout.{rule_limit, rule_size, word_limit}
-use Rattle.sheets.specs.Reading.{Reading, behind_rows, many?, reading, rows_of, sheet_limit}
-use Rattle.sheets.specs.declared.rows.Rows.{Rows}
-use Rattle.sheets.specs.declared.rows.Rows.TheVariants as rows
+use Rattle.std.specs.Prelude.{Result, Ok, Err}
+use Rattle.sheets.specs.Reading.{BadAt, Reading, behind_rows, many?, reading, rows_of, sheet_limit}
 use Rattle.tables.proofs.CompiledFinds.{taken, was_taken}
 use Rattle.tables.specs.Compiling.{Compiling}
 
@@ -31,14 +30,14 @@ module _ (bytes n : ℕ) where
   fits_room true p e = absurd (omega arith)
   fits_room false p e = ltb-false bytes (rule_size * n) p
 
-fits_tested : (bytes : ℕ) (long many : Bool) (v : Rows)
+fits_tested : (bytes : ℕ) (long many : Bool) (v : Result ℕ BadAt)
     → (if long then refused refusal.long 0 0 else if many then refused refusal.many 0 0 else behind_rows v bytes).no ≡ 0
     → rule_size * (if long then refused refusal.long 0 0 else if many then refused refusal.many 0 0 else behind_rows v bytes).a ≤ bytes
 unfolding behind_rows
 fits_tested bytes true many v e = absurd (omega arith)
 fits_tested bytes false true v e = absurd (omega arith)
-fits_tested bytes false false (rows.Bad line field) e = absurd (omega arith)
-fits_tested bytes false false (rows.Good n) e = fits_room bytes n (ltb bytes (rule_size * n)) refl e
+fits_tested bytes false false (Err b) e = absurd (omega arith)
+fits_tested bytes false false (Ok n) e = fits_room bytes n (ltb bytes (rule_size * n)) refl e
 
 fits : (s : List ℕ) (bytes : ℕ) → (reading s bytes).no ≡ 0 → rule_size * (reading s bytes).a ≤ bytes
 unfolding reading
