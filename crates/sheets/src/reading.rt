@@ -35,10 +35,8 @@ impl From<BadLine> for SheetError {
     ghost from_gives = { λ bad error. error ≡ line_error bad };
 
     fn from(bad: BadLine) -> SheetError {
-        SheetError::Bad {
-            line: bad.line,
-            part: bad.part,
-        }
+        let BadLine { line, part } = bad;
+        SheetError::Bad { line, part }
     }
 }
 
