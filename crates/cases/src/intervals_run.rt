@@ -86,7 +86,7 @@ fn list(rt: &impl Print, n: u32, low: u32, high: u32, room: usize) -> io::Result
         Ok(words) => print!(rt; "{words} words:")?,
         Err(error) => print!(rt; "{}:", Refused::from(error))?,
     }
-    for x in &space[..14] {
+    for x in space.iter().take(14) {
         print!(rt; " {x}")?;
     }
     println!(rt)

@@ -121,8 +121,8 @@ fn wide_rules(rt: &impl Print) -> io::Result<()> {
     let logged = Rule { action: 2, ..wide };
     let list = [wide.to_bytes(), denied.to_bytes(), logged.to_bytes()];
     let rules = list.as_flattened();
-    let one = &rules[..RULE_SIZE];
-    let two = &rules[..2 * RULE_SIZE];
+    let one = list[0].as_slice();
+    let two = list[..2].as_flattened();
     let ports = Key {
         proto: 17,
         src: 0,
@@ -246,13 +246,8 @@ fn stated(rt: &impl Print) -> io::Result<()> {
     by_word(rt, "one record counted", table, 1, &other)?;
     by_word(rt, "no record counted", table, 0, &header)?;
     by_word(rt, "three records counted", table, 3, &header)?;
-    by_word(
-        rt,
-        "two counted, 55 bytes",
-        &table[..2 * RECORD_SIZE - 1],
-        2,
-        &header,
-    )?;
+    let (_, short) = table.split_last().unwrap();
+    by_word(rt, "two counted, 55 bytes", short, 2, &header)?;
     by_word(rt, "a header of 12 bytes", table, 2, &header[..12])?;
     by_word(rt, "a header of 14 bytes", table, 2, &long)
 }

@@ -1,4 +1,5 @@
 // Every interval of a width, counted: how many of them have 1, 2, .. prefix words.
+ghost use Rattle.std.specs.Prelude.{◌<◌};
 
 // How many intervals have t words, at t. No interval of 16 bits has more than 30.
 #[derive(Clone, Copy)]
@@ -43,7 +44,9 @@ impl Tally {
     }
 
     // The most words that an interval has.
-    pub fn most(&self) -> usize {
+    pub fn most(&self) -> usize
+        ensures { result < 32 }
+    {
         self.having.iter().rposition(|k| *k != 0).unwrap_or(0)
     }
 

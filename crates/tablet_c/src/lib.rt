@@ -36,6 +36,7 @@ pub extern "C" fn ashkavorz_list(width: u32, low: u32, high: u32, out: &mut [u16
     intervals::list(width, low, high, out).answer()
 }
 
+#[tactic(auto, unfolding(tablet::specs::Faces::step_face))]
 #[unsafe(no_mangle)]
 pub extern "C" fn ashkavorz_step(walk: Walk) -> Step
     ensures { result ≡ step_face walk }
