@@ -1,9 +1,0 @@
--- `texts::hex_digit` meets its contract. Assumes nothing.
-use borrow.Author.Tests.{le-ltb, lt-ltb}
-use Rattle.texts.proofs.hex_digit.Goals as goal
-
-pub returns-then-d-lt10 : goal.returns-then-d-lt10
-returns-then-d-lt10 c = rw (lt-ltb _ 10 c.if-d-lt10.true)
-
-pub returns : goal.returns
-returns c = rw (le-ltb _ 10 c.if-d-lt10.false)
