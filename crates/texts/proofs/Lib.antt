@@ -1,6 +1,3 @@
 pub mod Digits
-pub mod Behind
-pub mod ByteByByte
 pub mod HexBytes
-pub mod LastDigit
-pub mod WordLine
+pub mod FromRecord

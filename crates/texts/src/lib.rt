@@ -1,12 +1,12 @@
 // Numbers, bytes and table records as text.
 #![tactic(auto)]
 
-ghost use Rattle.std.specs.Prelude.{◌++◌, ◌≡◌, ◌*◌, ◌+◌, ◌<◌, ◌≤◌, length};
+ghost use Rattle.std.specs.Prelude.{[], ◌∷◌, ◌++◌, ◌≡◌, ◌*◌, ◌+◌, ◌<◌, ◌≤◌, length};
 ghost use Rattle.arrayvec.specs.ArrayVec.{array_vec_len};
 ghost use Rattle.records.specs.Layout.{record_size};
 ghost use Rattle.texts.specs.Decimal.{decimal};
 ghost use Rattle.texts.specs.Hex.{hex_digit, hex_of};
-ghost use Rattle.texts.specs.Lines.{Puts, action_text, line_size, word_line};
+ghost use Rattle.texts.specs.Lines.{Puts, action_text, line_feed, line_size, word_line};
 
 use arrayvec::ArrayVec;
 use records::{ACTION_AT, KEY_SIZE, MASK_AT, NUMBER_AT, RECORD_SIZE};
@@ -18,8 +18,9 @@ pub const LINE_SIZE: usize = 80;
 pub type Line = ArrayVec<u8, LINE_SIZE>;
 
 // Adds x in decimal.
+#[tactic(auto, using(std::proofs::lemmas::Grind::common_steps, crate::proofs::Digits::decimal_last, crate::proofs::Digits::decimal_more))]
 fn push_decimal(line: &mut Line, x: u32)
-    requires room { array_vec_len line.old + 5 ≤ line_size }
+    requires room { array_vec_len line.old + length (decimal x) ≤ line_size }
     requires few { x < 100000 }
     ensures { line.new.items ≡ line.old.items ++ decimal x }
 {
@@ -27,14 +28,6 @@ fn push_decimal(line: &mut Line, x: u32)
         push_decimal(line, x / 10);
     }
     line.push(b'0' + (x % 10) as u8);
-}
-
-// Adds s as it is.
-fn push_text(line: &mut Line, s: &[u8])
-    requires { array_vec_len line.old + length s.now ≤ line_size }
-    ensures { line.new.items ≡ line.old.items ++ s.now }
-{
-    line.try_extend_from_slice(s).unwrap()
 }
 
 fn hex_digit(d: u8) -> u8
@@ -48,8 +41,9 @@ fn hex_digit(d: u8) -> u8
 }
 
 // Adds the bytes of s as two hex digits each.
+#[tactic(auto, unfolding(crate::specs::Hex::hex_of))]
 fn push_hex(line: &mut Line, s: &[u8])
-    requires { array_vec_len line.old + 2 * length s.now ≤ line_size }
+    requires { array_vec_len line.old + length (hex_of s.now) ≤ line_size }
     ensures { line.new.items ≡ line.old.items ++ hex_of s.now }
 {
     for byte in s {
@@ -58,38 +52,43 @@ fn push_hex(line: &mut Line, s: &[u8])
     }
 }
 
-// The word for an action. The byte is a record's own, so it may be none of the four; the last word stands for it.
-fn action_text(action: u8) -> &'static [u8]
-    ensures { result.now ≡ action_text action }
+// Adds the word for an action, and ends the line. The byte is a record's own, so it may be none of the four; the last word
+// stands for it.
+fn push_action(line: &mut Line, action: u8)
+    requires { array_vec_len line.old + 11 ≤ line_size }
+    ensures { line.new.items ≡ line.old.items ++ (action_text action ++ (line_feed ∷ [])) }
 {
-    match action {
+    let text: &[u8] = match action {
         0 => b"permit",
         1 => b"deny",
         2 => b"permit-log",
         _ => b"deny-log",
-    }
+    };
+    line.try_extend_from_slice(text).unwrap();
+    line.push(b'\n');
 }
 
 // The line of a record, which has this index.
+#[tactic(auto, using(std::proofs::lemmas::Grind::common_steps, crate::proofs::Digits::decimal_few, crate::proofs::HexBytes::hex_length))]
 pub fn word_line(index: u32, bytes: &[u8; RECORD_SIZE]) -> Line
     requires { index < 100000 }
     ensures { result.items ≡ word_line index bytes.now }
 {
     let mut line = Line::new();
     push_decimal(&mut line, index);
-    push_text(&mut line, b"\t");
+    line.push(b'\t');
     push_decimal(&mut line, u32::from(bytes[NUMBER_AT]));
-    push_text(&mut line, b"\t");
+    line.push(b'\t');
     push_hex(&mut line, &bytes[..KEY_SIZE]);
-    push_text(&mut line, b"\t");
+    line.push(b'\t');
     push_hex(&mut line, &bytes[MASK_AT..NUMBER_AT]);
-    push_text(&mut line, b"\t");
-    push_text(&mut line, action_text(bytes[ACTION_AT]));
-    push_text(&mut line, b"\n");
+    line.push(b'\t');
+    push_action(&mut line, bytes[ACTION_AT]);
     line
 }
 
 // Writes the line of the record at the start of s, which has this index.
+#[tactic(auto, using(crate::proofs::FromRecord::line_take))]
 pub fn put_word(t: &mut [u8], at: usize, index: u32, s: &[u8]) -> usize
     requires room { at + line_size ≤ length t.old }
     requires few { index < 100000 }
