@@ -6,7 +6,7 @@ ghost use Rattle.arrayvec.specs.ArrayVec.{array_vec_len};
 ghost use Rattle.records.specs.Layout.{record_size};
 ghost use Rattle.texts.specs.Decimal.{decimal};
 ghost use Rattle.texts.specs.Hex.{hex_digit, hex_of};
-ghost use Rattle.texts.specs.Lines.{Puts, action_text, line_feed, line_size, word_line};
+ghost use Rattle.texts.specs.Lines.{Puts, action_text, line_feed, line_size, tab, word_line};
 
 use arrayvec::ArrayVec;
 use records::{ACTION_AT, KEY_SIZE, MASK_AT, NUMBER_AT, RECORD_SIZE};
@@ -30,6 +30,18 @@ fn push_decimal(line: &mut Line, x: u32)
     line.push(b'0' + (x % 10) as u8);
 }
 
+// Adds x in decimal, and a tab.
+#[tactic(auto, using(std::proofs::lemmas::Grind::common_steps, crate::proofs::Digits::decimal_few))]
+fn push_number(line: &mut Line, x: u32)
+    requires room { array_vec_len line.old + 6 ≤ line_size }
+    requires few { x < 100000 }
+    ensures text { line.new.items ≡ line.old.items ++ (decimal x ++ (tab ∷ [])) }
+    ensures short { array_vec_len line.new ≤ array_vec_len line.old + 6 }
+{
+    push_decimal(line, x);
+    line.push(b'\t');
+}
+
 fn hex_digit(d: u8) -> u8
     requires { d < 16 }
     ensures { result ≡ hex_digit d }
@@ -40,16 +52,18 @@ fn hex_digit(d: u8) -> u8
     b'A' + (d - 10)
 }
 
-// Adds the bytes of s as two hex digits each.
+// Adds the bytes of s as two hex digits each, and a tab.
 #[tactic(auto, unfolding(crate::specs::Hex::hex_of))]
 fn push_hex(line: &mut Line, s: &[u8])
-    requires { array_vec_len line.old + length (hex_of s.now) ≤ line_size }
-    ensures { line.new.items ≡ line.old.items ++ hex_of s.now }
+    requires { array_vec_len line.old + (2 * length s.now + 1) ≤ line_size }
+    ensures text { line.new.items ≡ line.old.items ++ (hex_of s.now ++ (tab ∷ [])) }
+    ensures len { array_vec_len line.new ≡ array_vec_len line.old + (2 * length s.now + 1) }
 {
     for byte in s {
         line.push(hex_digit(byte / 16));
         line.push(hex_digit(byte % 16));
     }
+    line.push(b'\t');
 }
 
 // Adds the word for an action, and ends the line. The byte is a record's own, so it may be none of the four; the last word
@@ -69,20 +83,15 @@ fn push_action(line: &mut Line, action: u8)
 }
 
 // The line of a record, which has this index.
-#[tactic(auto, using(std::proofs::lemmas::Grind::common_steps, crate::proofs::Digits::decimal_few, crate::proofs::HexBytes::hex_length))]
 pub fn word_line(index: u32, bytes: &[u8; RECORD_SIZE]) -> Line
     requires { index < 100000 }
     ensures { result.items ≡ word_line index bytes.now }
 {
     let mut line = Line::new();
-    push_decimal(&mut line, index);
-    line.push(b'\t');
-    push_decimal(&mut line, u32::from(bytes[NUMBER_AT]));
-    line.push(b'\t');
+    push_number(&mut line, index);
+    push_number(&mut line, u32::from(bytes[NUMBER_AT]));
     push_hex(&mut line, &bytes[..KEY_SIZE]);
-    line.push(b'\t');
     push_hex(&mut line, &bytes[MASK_AT..NUMBER_AT]);
-    line.push(b'\t');
     push_action(&mut line, bytes[ACTION_AT]);
     line
 }
