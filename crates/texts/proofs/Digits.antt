@@ -1,6 +1,6 @@
 -- The digits of a number: how many they are, and that the last one goes behind those of a tenth of it. Assumes nothing.
 use mathlib.Core.List.{[], ◌∷◌, ◌++◌}
-use mathlib.Core.Path.{◌≡◌, sym, ◌∙◌}
+use mathlib.Core.Path.{◌≡◌}
 use Prim.Native.Nat.{ℕ, zero, suc, ◌+◌, ◌/◌, ◌%◌, ◌≤◌, ◌<◌, ◌^◌}
 use native.Mathlib.Nat.{pow-suc}
 use native.Mathlib.Omega.{arith}
@@ -29,7 +29,7 @@ digits_few (suc f) x = grind (arith, common_steps, digits_few f (x / 10))
 -- where so many digits are enough, no more are used
 digits_enough : (f x : ℕ) → x < 10 ^ suc f → digits_of (suc (suc f)) x ≡ digits_of (suc f) x
 unfolding digits_of
-digits_enough zero x h = digits_last 1 x h ∙ sym (digits_last 0 x h)
+digits_enough zero x h = grind (arith, common_steps)
 digits_enough (suc f) x h = let e = digits_enough f (x / 10) (omega (arith, pow-suc 10 (suc f))) in grind (arith, common_steps, e)
 
 -- ---- a number below 100,000
