@@ -1,13 +1,12 @@
 -- The digits of a number: how many they are, and that the last one goes behind those of a tenth of it. Assumes nothing.
 use mathlib.Core.List.{[], ◌∷◌, ◌++◌}
-use mathlib.Core.Logic.{⊎_elim}
-use mathlib.Core.Path.{◌≡◌, sym, ◌∙◌}
+use mathlib.Core.Path.{◌≡◌}
 use Prim.Native.Nat.{ℕ, zero, suc, ◌+◌, ◌/◌, ◌%◌, ◌≤◌, ◌<◌, ◌^◌}
 use native.Mathlib.Nat.{pow-suc}
 use native.Mathlib.Omega.{arith}
 use borrow.Author.Tests.{le-ltb, lt-ltb}
-use lib.ListN.{length, length-append}
-use Rattle.bits.proofs.Orders.{le_or_lt}
+use lib.ListN.{length}
+use Rattle.std.proofs.lemmas.Grind.{common_steps}
 use Rattle.texts.specs.Decimal.{decimal, digits_of}
 
 -- ---- one digit, and more
@@ -25,28 +24,18 @@ digits_more f x h = rw (le-ltb x 10 h)
 digits_few : (f x : ℕ) → length (digits_of f x) ≤ f
 unfolding digits_of
 digits_few zero x = omega arith
-digits_few (suc f) x =
-    ⊎_elim
-    (λ (m : 10 ≤ x). rw (digits_more f x m, length-append) (omega (arith, digits_few f (x / 10))))
-    (λ (l : x < 10). rw (digits_last f x l) (omega arith))
-    (le_or_lt 10 x)
+digits_few (suc f) x = grind (arith, common_steps, digits_few f (x / 10))
 
 -- where so many digits are enough, no more are used
 digits_enough : (f x : ℕ) → x < 10 ^ suc f → digits_of (suc (suc f)) x ≡ digits_of (suc f) x
-digits_enough zero x h = digits_last 1 x h ∙ sym (digits_last 0 x h)
-digits_enough (suc f) x h =
-    ⊎_elim
-    (λ (m : 10 ≤ x). rw (digits_more (suc (suc f)) x m, digits_more (suc f) x m, digits_enough f (x / 10) (omega (arith, pow-suc 10 (suc f)))))
-    (λ (l : x < 10). digits_last (suc (suc f)) x l ∙ sym (digits_last (suc f) x l))
-    (le_or_lt 10 x)
+unfolding digits_of
+digits_enough zero x h = grind (arith, common_steps)
+digits_enough (suc f) x h = let e = digits_enough f (x / 10) (omega (arith, pow-suc 10 (suc f))) in grind (arith, common_steps, e)
 
 -- ---- a number below 100,000
 
 pub decimal_few : (x : ℕ) → length (decimal x) ≤ 5
 decimal_few x = digits_few 5 x
-
-pub decimal_four : (x : ℕ) → x < 10000 → length (decimal x) ≤ 4
-decimal_four x h = rw (digits_enough 3 x h) (digits_few 4 x)
 
 pub decimal_last : (x : ℕ) → x < 10 → decimal x ≡ (48 + x % 10) ∷ []
 decimal_last x h = digits_last 4 x h

@@ -1,5 +1,2 @@
 pub mod Digits
-pub mod Behind
-pub mod HexBytes
-pub mod LastDigit
-pub mod WordLine
+pub mod FromRecord

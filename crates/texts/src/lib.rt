@@ -1,37 +1,45 @@
-// Numbers, bytes and table records as text, written into a lent buffer.
+// Numbers, bytes and table records as text.
 #![tactic(auto)]
 
-ghost use Rattle.std.specs.Prelude.{[], ◌++◌, ◌∷◌, ◌≡◌, ◌*◌, ◌+◌, ◌<◌, ◌≤◌, length};
+ghost use Rattle.std.specs.Prelude.{[], ◌∷◌, ◌++◌, ◌≡◌, ◌*◌, ◌+◌, ◌<◌, ◌≤◌, length};
+ghost use Rattle.arrayvec.specs.ArrayVec.{array_vec_len};
 ghost use Rattle.records.specs.Layout.{record_size};
 ghost use Rattle.texts.specs.Decimal.{decimal};
 ghost use Rattle.texts.specs.Hex.{hex_digit, hex_of};
-ghost use Rattle.texts.specs.Lines.{Puts, action_text, line_size, tab, word_line};
+ghost use Rattle.texts.specs.Lines.{Puts, action_text, line_feed, line_size, tab, word_line};
 
-use records::{ACTION_AT, KEY_SIZE, MASK_AT, NUMBER_AT};
+use arrayvec::ArrayVec;
+use records::{ACTION_AT, KEY_SIZE, MASK_AT, NUMBER_AT, RECORD_SIZE};
 
 // No record's line is longer.
 pub const LINE_SIZE: usize = 80;
 
-// Writes x in decimal at `at`; the place after it.
-pub fn put_decimal(t: &mut [u8], at: usize, x: u32) -> usize
-    requires room { at + 5 ≤ length t.old }
+// A line of text, as far as it is written.
+pub type Line = ArrayVec<u8, LINE_SIZE>;
+
+// Adds x in decimal.
+#[tactic(auto, using(std::proofs::lemmas::Grind::common_steps, crate::proofs::Digits::decimal_last, crate::proofs::Digits::decimal_more))]
+fn push_decimal(line: &mut Line, x: u32)
+    requires room { array_vec_len line.old + length (decimal x) ≤ line_size }
     requires few { x < 100000 }
-    ensures { Puts t.old at (decimal x) result t.new }
+    ensures { line.new.items ≡ line.old.items ++ decimal x }
 {
-    let mut to = at;
     if 10 <= x {
-        to = put_decimal(t, at, x / 10);
+        push_decimal(line, x / 10);
     }
-    put_text(t, to, &[b'0' + (x % 10) as u8])
+    line.push(b'0' + (x % 10) as u8);
 }
 
-// Writes s as it is.
-pub fn put_text(t: &mut [u8], at: usize, s: &[u8]) -> usize
-    requires { at + length s.now ≤ length t.old }
-    ensures { Puts t.old at s.now result t.new }
+// Adds x in decimal, and a tab.
+#[tactic(auto, using(std::proofs::lemmas::Grind::common_steps, crate::proofs::Digits::decimal_few))]
+fn push_number(line: &mut Line, x: u32)
+    requires room { array_vec_len line.old + 6 ≤ line_size }
+    requires few { x < 100000 }
+    ensures text { line.new.items ≡ line.old.items ++ (decimal x ++ (tab ∷ [])) }
+    ensures short { array_vec_len line.new ≤ array_vec_len line.old + 6 }
 {
-    fields::put(t, at, s);
-    at + s.len()
+    push_decimal(line, x);
+    line.push(b'\t');
 }
 
 fn hex_digit(d: u8) -> u8
@@ -44,60 +52,60 @@ fn hex_digit(d: u8) -> u8
     b'A' + (d - 10)
 }
 
-// Writes the bytes of s as two hex digits each.
-pub fn put_hex(t: &mut [u8], at: usize, s: &[u8]) -> usize
-    requires { at + 2 * length s.now ≤ length t.old }
-    ensures { Puts t.old at (hex_of s.now) result t.new }
+// Adds the bytes of s as two hex digits each, and a tab.
+#[tactic(auto, unfolding(crate::specs::Hex::hex_of))]
+fn push_hex(line: &mut Line, s: &[u8])
+    requires { array_vec_len line.old + (2 * length s.now + 1) ≤ line_size }
+    ensures text { line.new.items ≡ line.old.items ++ (hex_of s.now ++ (tab ∷ [])) }
+    ensures len { array_vec_len line.new ≡ array_vec_len line.old + (2 * length s.now + 1) }
 {
-    for (i, byte) in s.iter().enumerate() {
-        fields::put(t, at + 2 * i, &[hex_digit(byte / 16), hex_digit(byte % 16)]);
+    for byte in s {
+        line.push(hex_digit(byte / 16));
+        line.push(hex_digit(byte % 16));
     }
-    at + 2 * s.len()
+    line.push(b'\t');
 }
 
-// Writes the word for an action. The byte is the record's own, so it may be none of the four; the last word stands for it.
-fn put_action(t: &mut [u8], at: usize, action: u8) -> usize
-    requires { at + 10 ≤ length t.old }
-    ensures { Puts t.old at (action_text action) result t.new }
+// Adds the word for an action, and ends the line. The byte is a record's own, so it may be none of the four; the last word
+// stands for it.
+fn push_action(line: &mut Line, action: u8)
+    requires { array_vec_len line.old + 11 ≤ line_size }
+    ensures { line.new.items ≡ line.old.items ++ (action_text action ++ (line_feed ∷ [])) }
 {
-    match action {
-        0 => put_text(t, at, b"permit"),
-        1 => put_text(t, at, b"deny"),
-        2 => put_text(t, at, b"permit-log"),
-        _ => put_text(t, at, b"deny-log"),
-    }
+    let text: &[u8] = match action {
+        0 => b"permit",
+        1 => b"deny",
+        2 => b"permit-log",
+        _ => b"deny-log",
+    };
+    line.try_extend_from_slice(text).unwrap();
+    line.push(b'\n');
 }
 
-// Writes x in decimal, and a tab.
-fn put_number(t: &mut [u8], at: usize, x: u32) -> usize
-    requires room { at + 6 ≤ length t.old }
-    requires few { x < 100000 }
-    ensures { Puts t.old at (decimal x ++ (tab ∷ [])) result t.new }
+// The line of a record, which has this index.
+pub fn word_line(index: u32, bytes: &[u8; RECORD_SIZE]) -> Line
+    requires { index < 100000 }
+    ensures { result.items ≡ word_line index bytes.now }
 {
-    let to = put_decimal(t, at, x);
-    put_text(t, to, b"\t")
-}
-
-// Writes the bytes of s as hex digits, and a tab.
-fn put_bytes(t: &mut [u8], at: usize, s: &[u8]) -> usize
-    requires { at + (2 * length s.now + 1) ≤ length t.old }
-    ensures { Puts t.old at (hex_of s.now ++ (tab ∷ [])) result t.new }
-{
-    let to = put_hex(t, at, s);
-    put_text(t, to, b"\t")
+    let mut line = Line::new();
+    push_number(&mut line, index);
+    push_number(&mut line, u32::from(bytes[NUMBER_AT]));
+    push_hex(&mut line, &bytes[..KEY_SIZE]);
+    push_hex(&mut line, &bytes[MASK_AT..NUMBER_AT]);
+    push_action(&mut line, bytes[ACTION_AT]);
+    line
 }
 
 // Writes the line of the record at the start of s, which has this index.
+#[tactic(auto, using(crate::proofs::FromRecord::line_take))]
 pub fn put_word(t: &mut [u8], at: usize, index: u32, s: &[u8]) -> usize
     requires room { at + line_size ≤ length t.old }
     requires few { index < 100000 }
     requires held { record_size ≤ length s.now }
     ensures { Puts t.old at (word_line index s.now) result t.new }
 {
-    let a = put_number(t, at, index);
-    let b = put_number(t, a, u32::from(s[NUMBER_AT]));
-    let c = put_bytes(t, b, &s[..KEY_SIZE]);
-    let d = put_bytes(t, c, &s[MASK_AT..NUMBER_AT]);
-    let e = put_action(t, d, s[ACTION_AT]);
-    put_text(t, e, b"\n")
+    let bytes = s.first_chunk::<RECORD_SIZE>().unwrap();
+    let line = word_line(index, bytes);
+    fields::put(t, at, line.as_slice());
+    at + line.len()
 }

@@ -1,5 +1,0 @@
--- `texts::put_decimal` ends: it calls itself with a tenth of the number.
-use Rattle.texts.proofs.+put_decimal.Given as goal
-
-abbrev pub decreases-put_decimal : goal.decreases-put_decimal
-decreases-put_decimal l = l.x
