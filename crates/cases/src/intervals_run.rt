@@ -177,7 +177,10 @@ pub fn walks(rt: &impl Print) -> io::Result<()> {
 }
 
 fn check(rt: &impl Print, n: u32, low: u32, high: u32, list: &[u16], k: usize) -> io::Result<()> {
-    print!(rt; "check n = {n}, {low}..{high}, {k} words of {} numbers: ", list.len())?;
+    print!(rt;
+        "check n = {n}, {low}..{high}, {k} words of {} numbers: ",
+        list.len()
+    )?;
     match intervals::check(n, low, high, list, k) {
         Ok(None) => println!(rt; "yes"),
         Ok(Some(x)) => println!(rt; "no, {x}"),

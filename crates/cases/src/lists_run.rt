@@ -53,10 +53,7 @@ pub fn fields(rt: &impl Print) -> io::Result<()> {
     bad(rt, "flag 2", Rule { flag: 2, ..ANY })?;
     bad(rt, "protocol 6 under any", Rule { proto: 6, ..ANY })?;
     bad(rt, "source length 33", Rule { slen: 33, ..ANY })?;
-    let source = Rule {
-        src: ten(1),
-        ..ANY
-    };
+    let source = Rule { src: ten(1), ..ANY };
     bad(rt, "source 10.0.0.1/8", Rule { slen: 8, ..source })?;
     bad(rt, "source 10.0.0.1/32", Rule { slen: 32, ..source })?;
     bad(rt, "destination length 33", Rule { dlen: 33, ..ANY })?;
@@ -97,10 +94,7 @@ pub fn pairs(rt: &impl Print) -> io::Result<()> {
         "protocol 6 and source length 33",
         Rule { proto: 6, ..length },
     )?;
-    let source = Rule {
-        src: ten(0),
-        ..ANY
-    };
+    let source = Rule { src: ten(0), ..ANY };
     bad(
         rt,
         "source length 33 and address bits",
@@ -111,10 +105,7 @@ pub fn pairs(rt: &impl Print) -> io::Result<()> {
         "source address bits and destination length 33",
         Rule { dlen: 33, ..source },
     )?;
-    let dest = Rule {
-        dst: ten(0),
-        ..ANY
-    };
+    let dest = Rule { dst: ten(0), ..ANY };
     bad(
         rt,
         "destination length 33 and address bits",

@@ -28,7 +28,10 @@ fn by_word(rt: &impl Print, label: &str, table: &[u8], k: usize, header: &[u8]) 
     match tables::find_word(table, k, header) {
         Ok(Some(found)) => {
             let action = u8::from(found.action);
-            println!(rt; "record {}, rule {}, action {action}", found.index, found.rule)
+            println!(rt;
+                "record {}, rule {}, action {action}",
+                found.index, found.rule
+            )
         }
         Ok(None) => println!(rt; "nothing"),
         Err(error) => println!(rt; "{}", Refused::from(error)),

@@ -18,7 +18,10 @@ fn together(rt: &impl Print, rules: &[u8]) -> io::Result<()> {
     match tables::find_word(&table, k as usize, &key.to_bytes()) {
         Ok(Some(found)) => {
             let action = u8::from(found.action);
-            println!(rt; "record {}, rule {}, action {action}", found.index, found.rule)
+            println!(rt;
+                "record {}, rule {}, action {action}",
+                found.index, found.rule
+            )
         }
         Ok(None) => println!(rt; "nothing"),
         Err(_) => println!(rt; "refused"),

@@ -19,7 +19,9 @@ fn interval(rt: &impl Print, width: u32, low: u32, high: u32) -> io::Result<()> 
 }
 
 pub fn run(rt: &impl Print) -> io::Result<()> {
-    println!(rt; "source document 001, table 3 (a), and source document 002, figure 1 (a): the prefix words of 1..14")?;
+    println!(rt;
+        "source document 001, table 3 (a), and source document 002, figure 1 (a): the prefix words of 1..14"
+    )?;
     interval(rt, 4, 1, 14)?;
     println!(rt; "source document 002, figure 6: the prefix words of 19..61")?;
     interval(rt, 6, 19, 61)

@@ -13,7 +13,9 @@ fn count_line(rt: &impl Print, n: usize, tally: &Tally) -> io::Result<()> {
 }
 
 pub fn counts(rt: &impl Print, all: &[Tally; 13]) -> io::Result<()> {
-    println!(rt; "source document 000, theorem 4.1: how many intervals of width n have 1, 2, .. words")?;
+    println!(rt;
+        "source document 000, theorem 4.1: how many intervals of width n have 1, 2, .. words"
+    )?;
     for (n, tally) in all.iter().enumerate().take(11).skip(1) {
         count_line(rt, n, tally)?;
     }
@@ -21,7 +23,9 @@ pub fn counts(rt: &impl Print, all: &[Tally; 13]) -> io::Result<()> {
 }
 
 pub fn means(rt: &impl Print, all: &[Tally; 13]) -> io::Result<()> {
-    println!(rt; "source document 000, table 4: n, how many intervals, their mean number of words")?;
+    println!(rt;
+        "source document 000, table 4: n, how many intervals, their mean number of words"
+    )?;
     for (n, tally) in all.iter().enumerate().skip(4) {
         let sums = tally.sums();
         let mean = Decimal::ratio(sums.words, sums.intervals);
@@ -41,9 +45,7 @@ struct Spread {
 
 impl Spread {
     fn of(sums: Sums, t: u64) -> Spread {
-        let above = t
-            .saturating_mul(sums.intervals)
-            .saturating_sub(sums.words);
+        let above = t.saturating_mul(sums.intervals).saturating_sub(sums.words);
         let whole = sums.intervals.saturating_mul(sums.squares);
         Spread {
             above,
@@ -79,13 +81,18 @@ fn share_line(rt: &impl Print, n: usize, tally: &Tally) -> io::Result<()> {
     });
     print!(rt; "{n}")?;
     for share in [one, two, variance] {
-        print!(rt; " {}%", Decimal::ratio(share.saturating_mul(100), intervals))?;
+        print!(rt;
+            " {}%",
+            Decimal::ratio(share.saturating_mul(100), intervals)
+        )?;
     }
     println!(rt)
 }
 
 pub fn shares(rt: &impl Print, all: &[Tally; 13]) -> io::Result<()> {
-    println!(rt; "source document 000, table 5: n, intervals with at most the mean and one, two deviations, the variance")?;
+    println!(rt;
+        "source document 000, table 5: n, intervals with at most the mean and one, two deviations, the variance"
+    )?;
     for (n, tally) in all.iter().enumerate().skip(8) {
         share_line(rt, n, tally)?;
     }

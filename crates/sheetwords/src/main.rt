@@ -41,11 +41,10 @@ fn print_words(rt: &impl Print, records: &[[u8; RECORD_SIZE]]) -> io::Result<()>
     requires { length records.now ≤ word_limit }
 {
     let mut piece = ArrayVec::<u8, PIECE>::new();
-    for (i, record) in records.iter().enumerate() {
-        let mut line = [0; LINE_SIZE];
-        let end = texts::put_word(&mut line, 0, i as u32, record);
+    for (i, bytes) in records.iter().enumerate() {
         make_room(rt, &mut piece)?;
-        piece.try_extend_from_slice(&line[..end]).unwrap();
+        let line = texts::word_line(i as u32, bytes);
+        piece.try_extend_from_slice(line.as_slice()).unwrap();
     }
     rt.write_all(piece.as_slice())
 }
