@@ -32,6 +32,7 @@ impl From<Refusal> for u32 {
     }
 }
 
+// `no` is a number, and 0 stands for no refusal: this struct is what C gets.
 #[repr(C)]
 #[derive(Clone, Copy)]
 pub struct Answer {

@@ -3,9 +3,9 @@ use mathlib.Core.Path.{◌≡◌, refl, sym, ap, ap₂, ◌∙◌, subst}
 use mathlib.Core.List.{List, ◌∷◌, ◌++◌}
 use mathlib.Core.Bool.{Bool, true, false, ◌&&◌, and-false}
 use mathlib.Core.Logic.{◌⊎◌, inl, inr}
-use Prim.Native.Nat.{ℕ, zero, suc, ◌+◌, ◌*◌, ◌%◌, ◌^◌, ◌≤◌, ◌<◌, zero-le}
+use Prim.Native.Nat.{ℕ, zero, suc, ◌+◌, ◌*◌, ◌%◌, ◌^◌, ◌≤◌, ◌<◌}
 use native.Mathlib.Omega.{arith}
-use native.Mathlib.Nat.{le_refl, mul-mod_left, zero-mul}
+use native.Mathlib.Nat.{mul-mod_left, zero-mul}
 use lib.Dec.{leb, eqb}
 use lib.Pow.{pow_pos}
 use borrow.Author.Tests.{le-leb, lt-leb, eq-eqb, ne_eqb, leb-true}
@@ -49,15 +49,6 @@ free_at k next end e = rw (e, free_of)
 pub free_down : (k next end : ℕ) → reaches? next end (suc k) ≡ false → free_of (suc k) next end ≡ free_of k next end
 unfolding free_of
 free_down k next end e = rw (e, free_of)
-
-pub free_le : (k next end : ℕ) → free_of k next end ≤ k
-unfolding free_of
-free_le zero next end = zero-le
-free_le (suc k) next end = go (reaches? next end (suc k)) refl (free_le k next end)
-  where
-    go : (b : Bool) → reaches? next end (suc k) ≡ b → free_of k next end ≤ k → free_of (suc k) next end ≤ suc k
-    go true e h = rw (e, free_of) (le_refl (suc k))
-    go false e h = rw (e, free_of) (omega arith)
 
 -- the block found ends by end
 pub free_end : (k next end : ℕ) → next < end → next + 2 ^ free_of k next end ≤ end

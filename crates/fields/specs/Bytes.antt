@@ -18,12 +18,3 @@ at2 l i = get_or l i 0 * 256 + get_or l (i + 1) 0
 -- the number in the four bytes from i on
 abbrev pub at4 : List ℕ → ℕ → ℕ
 at4 l i = at2 l i * 65536 + at2 l (i + 2)
-
--- a widened number, with its bound
-pub record Byte (x r : ℕ) : Type 0 where
-  pub is : r ≡ x
-  pub small : r < 256
-
-pub record Half (x r : ℕ) : Type 0 where
-  pub is : r ≡ x
-  pub small : r < 65536

@@ -5,7 +5,8 @@ ghost use Rattle.intervals.specs.Walks.{stepped_as, stepping, walk_behind};
 use crate::ends::{Fault, test_ends};
 use blocks::{Interval, Word};
 
-// What stands in it is anything, until a step tests it. Once ended, it stays so, whatever its numbers are.
+// What stands in it is anything, until a step tests it. Once ended, it stays so, whatever its numbers are: they come back as
+// they were (`stepping`), so the flag stands beside them, as it does in C.
 #[derive(Clone, Copy, Debug, PartialEq, Eq)]
 pub struct Walk {
     pub width: u32,

@@ -70,7 +70,8 @@ impl Key {
     }
 }
 
-// A rule's 21 bytes as numbers. Nothing is tested yet: a bad rule has its bad fields here.
+// A rule's 21 bytes as numbers. Nothing is tested yet: a bad rule has its bad fields here, and `bad_field`, which finds them,
+// speaks of any rule. So the flag, the protocol under it and the action are bytes.
 #[derive(Clone, Copy, Debug, PartialEq, Eq)]
 pub struct Rule {
     pub flag: u8,
@@ -140,7 +141,8 @@ impl Rule {
     }
 }
 
-// A table record: a word of all five fields, the number of the rule that it belongs to, and that rule's action.
+// A table record: a word of all five fields, the number of the rule that it belongs to, and that rule's action, which is a byte
+// as in the rule: `put_rule` writes it as it is.
 #[derive(Clone, Copy, Debug, PartialEq, Eq)]
 pub struct Entry {
     pub value: Key,

@@ -75,16 +75,11 @@ good_next i r rs e = go (eqb (bad_field r) 0) refl e
 pub fine_at : (records : List (List ℕ)) → NoneBad records → (i : ℕ) → i < length records → Fine (rule_at (get_or records i []))
 fine_at records g i h = fine (rule_at (get_or records i [])) (g i h)
 
--- a list whose test is passed has no bad rule, and the other way round
+-- a list whose test is passed has no bad rule
 pub none_bad : (j : ℕ) (records : List (List ℕ)) → first_bad j (rules_in records) ≡ Ok tt → NoneBad records
 none_bad j [] e i h = absurd (omega arith)
 none_bad j (s ∷ ss) e zero h = (good_next j (rule_at s) (rules_in ss) e).0
 none_bad j (s ∷ ss) e (suc i) h = none_bad (j + 1) ss (good_next j (rule_at s) (rules_in ss) e).1 i (omega arith)
-
-pub bad_none : (j : ℕ) (records : List (List ℕ)) → NoneBad records → first_bad j (rules_in records) ≡ Ok tt
-unfolding first_bad
-bad_none j [] g = refl
-bad_none j (s ∷ ss) g = rw (eq-eqb (bad_field (rule_at s)) 0 (g 0 (omega arith))) (bad_none (j + 1) ss (λ (i : ℕ) (h : i < length ss). g (suc i) (omega arith)))
 
 -- ---- a list
 

@@ -1,4 +1,4 @@
-// A walk and its step at the C face, where `ended` is a number: 0 not ended, anything else ended.
+// A walk and its step as C has them, in numbers: `ended` is 0 for not ended, `no` 0 for not refused, `given` 1 for a word.
 ghost use Rattle.std.specs.Prelude.{◌≡◌};
 ghost use Rattle.intervals.specs.Walks.{stepped_as};
 ghost use Rattle.tablet.specs.Faces.{face_of, handed_in, handed_out};

@@ -67,7 +67,7 @@ fn push_hex(line: &mut Line, s: &[u8])
 }
 
 // Adds the word for an action, and ends the line. The byte is a record's own, so it may be none of the four; the last word
-// stands for it.
+// stands for it (`word_line` says so of any record).
 fn push_action(line: &mut Line, action: u8)
     requires { array_vec_len line.old + 11 ≤ line_size }
     ensures { line.new.items ≡ line.old.items ++ (action_text action ++ (line_feed ∷ [])) }

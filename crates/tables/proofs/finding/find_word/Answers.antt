@@ -1,3 +1,4 @@
+-- `tables::finding::find_word` meets its contract: an ill-formed record's index is below the count. Assumes nothing.
 use mathlib.Core.Path.{sym, ◌∙◌}
 use native.Mathlib.Omega.{arith}
 use Rattle.tables.proofs.Chunked.{ill_in}
