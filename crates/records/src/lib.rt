@@ -71,7 +71,7 @@ impl Key {
 }
 
 // A rule's 21 bytes as numbers. Nothing is tested yet: a bad rule has its bad fields here.
-#[derive(Clone, Copy, Debug, PartialEq, Eq)]
+#[derive(Clone, Copy, Debug, Default, PartialEq, Eq)]
 pub struct Rule {
     pub flag: u8,
     pub proto: u8,
