@@ -72,7 +72,7 @@ impl Key {
 
 // A rule's 21 bytes as numbers. Nothing is tested yet: a bad rule has its bad fields here, and `bad_field`, which finds them,
 // speaks of any rule. So the flag, the protocol under it and the action are bytes.
-#[derive(Clone, Copy, Debug, PartialEq, Eq)]
+#[derive(Clone, Copy, Debug, Default, PartialEq, Eq)]
 pub struct Rule {
     pub flag: u8,
     pub proto: u8,

@@ -14,6 +14,7 @@ pub mod AddressText
 pub mod TestsInOrder
 pub mod RowText
 pub mod RuleBack
+pub mod RulesLeft
 pub mod Settled
 pub mod FirstField
 pub mod Unread

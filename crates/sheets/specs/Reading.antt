@@ -1,10 +1,10 @@
 -- Reading a sheet: what is answered, and what the lent memory holds afterwards (document 02, order 1).
-use Rattle.std.specs.Prelude.{Bool, not, List, [], ◌∷◌, ◌≡◌, ℕ, zero, suc, ◌+◌, ◌*◌, Result, Ok, Err, eqb, ltb, length, if◌then◌else◌}
+use Rattle.std.specs.Prelude.{Bool, not, List, [], ◌∷◌, ◌≡◌, ℕ, zero, suc, ◌+◌, ◌*◌, Result, Ok, Err, IfOk, eqb, ltb, length, if◌then◌else◌}
+use Rattle.arrayvec.specs.ArrayVec.{ArrayVec, array_vec_len}
 use Rattle.answers.specs.Answers.{answer_of, done, one_number, refused}
 use Rattle.answers.specs.Lent.{Lent}
 use Rattle.answers.specs.Refusals as refusal
 use Rattle.answers.specs.declared.Answer.{Answer}
-use Rattle.fields.specs.Writes.{write_at}
 use Rattle.records.specs.Layout.{rule_limit, rule_size}
 use Rattle.records.specs.Rules.{list_bytes}
 use Rattle.records.specs.declared.Rule.{Rule}
@@ -67,14 +67,14 @@ rules_read (suc f) s =
     if ended? s then rule_then (row_of (before line_feed s)) rest else []
 
 -- the verdict of the loop over the lines, as the code answers
-abbrev pub rows_as : Result ℕ BadLine → Result ℕ BadAt
-rows_as (Ok n) = Ok n
+abbrev pub rows_as : Result (ArrayVec Rule) BadLine → Result ℕ BadAt
+rows_as (Ok rules) = Ok (array_vec_len rules)
 rows_as (Err b) = Err (bad_at b.line (part_number b.part))
 
--- the promise of the loop over the lines: its verdict, and the rules before the first bad line where they are held
-pub record ReadRows (s held : List ℕ) (r : Result ℕ BadLine) (left : List ℕ) : Type 0 where
+-- the promise of the loop over the lines: its verdict, and the rules where all lines are good
+pub record ReadRows (s : List ℕ) (r : Result (ArrayVec Rule) BadLine) : Type 0 where
   pub says : rows_as r ≡ rows_of rule_limit 0 s
-  pub leaves : left ≡ write_at held 0 (list_bytes (rules_read rule_limit s))
+  pub holds : IfOk r (λ rules. rules.items ≡ rules_read rule_limit s)
 
 -- the number and values of each answer
 abbrev pub sheet_error_as : SheetError → Answer

@@ -1,11 +1,15 @@
 // Reading a sheet into lent memory. The rules are held until every line is known to be good and the memory to be large
 // enough, so that a refused call changes nothing and the text is gone through once.
-ghost use Rattle.std.specs.Prelude.{◌≡◌};
+ghost use Rattle.std.specs.Prelude.{◌≡◌, ◌*◌, ◌≤◌, length};
+ghost use Rattle.fields.specs.Writes.{write_at};
+ghost use Rattle.records.specs.Layout.{rule_size};
+ghost use Rattle.records.specs.Rules.{list_bytes};
 ghost use Rattle.sheets.specs.Reading.{ReadRows, Reading, line_error, many?, read_as};
 
 use crate::cuts::{cut, halves};
 use crate::rows::{Part, read_row};
-use records::{LIST_BYTES, RULE_LIMIT, RULE_SIZE};
+use arrayvec::ArrayVec;
+use records::{RULE_LIMIT, RULE_SIZE, Rule};
 
 const LINE_FEED: u8 = b'\n';
 
@@ -51,14 +55,15 @@ fn many(text: &[u8]) -> bool
     !rest.is_empty()
 }
 
-// Reads the lines of a text, writes the rule of each into held, and stops at the first that is bad. How many lines there are.
-fn read_rows(text: &[u8], held: &mut [u8; LIST_BYTES]) -> Result<u32, BadLine>
-    ensures { ReadRows text.now held.old result held.new }
+// Reads the lines of a text into rules, and stops at the first that is bad.
+fn read_rows(text: &[u8]) -> Result<ArrayVec<Rule, RULE_LIMIT>, BadLine>
+    ensures { ReadRows text.now result }
 {
+    let mut rules = ArrayVec::<Rule, RULE_LIMIT>::new();
     let mut rest = text;
     for i in 0..RULE_LIMIT {
         if rest.is_empty() {
-            return Ok(i as u32);
+            break;
         }
         let line = i as u32 + 1;
         let unended = BadLine {
@@ -69,14 +74,24 @@ fn read_rows(text: &[u8], held: &mut [u8; LIST_BYTES]) -> Result<u32, BadLine>
             return Err(unended);
         };
         match read_row(row) {
-            Ok(rule) => fields::put(held, RULE_SIZE * i, &rule.to_bytes()),
+            Ok(rule) => rules.push(rule),
             Err(part) => {
                 return Err(BadLine { line, part });
             }
         }
         rest = others;
     }
-    Ok(RULE_LIMIT as u32)
+    Ok(rules)
+}
+
+// Writes the bytes of the rules, one behind the other.
+fn put_rules(t: &mut [u8], rules: &[Rule])
+    requires { rule_size * length rules.now ≤ length t.old }
+    ensures { t.new ≡ write_at t.old 0 (list_bytes rules.now) }
+{
+    for (i, rule) in rules.iter().enumerate() {
+        fields::put(t, RULE_SIZE * i, &rule.to_bytes());
+    }
 }
 
 // Reads a sheet, and answers how many rules it has.
@@ -89,12 +104,11 @@ pub fn read(text: &[u8], rules: &mut [u8]) -> Result<u32, SheetError>
     if many(text) {
         return Err(SheetError::Many);
     }
-    let mut held = [0; LIST_BYTES];
-    let count = read_rows(text, &mut held)?;
-    let bytes = RULE_SIZE * (count as usize);
+    let held = read_rows(text)?;
+    let bytes = RULE_SIZE * held.len();
     if rules.len() < bytes {
         return Err(SheetError::Room(bytes as u32));
     }
-    fields::put(rules, 0, &held[..bytes]);
-    Ok(count)
+    put_rules(rules, held.as_slice());
+    Ok(held.len() as u32)
 }
