@@ -35,7 +35,12 @@ fn first_ill(n: u32, words: &[[u16; 2]]) -> Option<usize>
 fn some_match(words: &[[u16; 2]], x: u16) -> bool
     ensures { result ≡ some? (words_in words.now) x }
 {
-    words.iter().any(|pair| Word::from(*pair).matches(x))
+    for pair in words {
+        if Word::from(*pair).matches(x) {
+            return true;
+        }
+    }
+    false
 }
 
 // The interval and the words agree at x.
