@@ -1,10 +1,10 @@
 -- Reading a sheet: what is answered, and what the lent memory holds afterwards (document 02, order 1).
 use Rattle.std.specs.Prelude.{Bool, not, List, [], ◌∷◌, ◌≡◌, ℕ, zero, suc, ◌+◌, ◌*◌, Result, Ok, Err, IfOk, eqb, ltb, length, if◌then◌else◌}
-use Rattle.arrayvec.specs.ArrayVec.{ArrayVec, array_vec_len}
 use Rattle.answers.specs.Answers.{answer_of, done, one_number, refused}
 use Rattle.answers.specs.Lent.{Lent}
 use Rattle.answers.specs.Refusals as refusal
 use Rattle.answers.specs.declared.Answer.{Answer}
+use Rattle.arrayvec.specs.ArrayVec.{ArrayVec, array_vec_len}
 use Rattle.records.specs.Layout.{rule_limit, rule_size}
 use Rattle.records.specs.Rules.{list_bytes}
 use Rattle.records.specs.declared.Rule.{Rule}
