@@ -8,7 +8,6 @@ use lib.Dec.{eqb}
 use lib.ListN.{length, length-append}
 use borrow.Author.Tests.{eqb-false, eqb-true}
 use Rattle.std.specs.Prelude.{Ok, Err}
-use Rattle.arrayvec.specs.ArrayVec.{ArrayVec}
 use Rattle.records.specs.Layout.{rule_limit}
 use Rattle.records.specs.declared.Rule.{Rule}
 use Rattle.sheets.specs.Cuts.{after, before}
@@ -25,19 +24,19 @@ pub record LinesLeft (s : List ℕ) (rules : List Rule) (rest : List ℕ) (i : �
   pub holds : rules_read rule_limit s ≡ rules ++ rules_read (rule_limit - i) rest
   pub counts : length rules ≡ i
 
-module _ (s rest : List ℕ) (v : ArrayVec Rule) (i : ℕ) (l : LinesLeft s v.items rest i) where
+module _ (s rest : List ℕ) (rules : List Rule) (i : ℕ) (l : LinesLeft s rules rest i) where
   -- no line is left
-  stop : rows_of (rule_limit - i) i rest ≡ Ok i → rules_read (rule_limit - i) rest ≡ [] → ReadRows s (Ok v)
-  stop e z = record { says = ap Ok l.counts ∙ sym (l.says ∙ e); holds = sym (l.holds ∙ rw z (append-nil v.items)) }
+  stop : rows_of (rule_limit - i) i rest ≡ Ok i → rules_read (rule_limit - i) rest ≡ [] → ReadRows s (Ok tt) rules
+  stop e z = record { says = ap Ok l.counts ∙ sym (l.says ∙ e); holds = sym (l.holds ∙ rw z (append-nil rules)) }
 
   -- all lines that are allowed are read
-  pub lines_all : i ≡ rule_limit → ReadRows s (Ok v)
+  pub lines_all : i ≡ rule_limit → ReadRows s (Ok tt) rules
   lines_all h =
       let e : rule_limit - i ≡ 0 = omega arith in
       stop (rw e (rows_all i rest)) (rw e (rules_all rest))
 
   -- there is no other line
-  pub lines_end : true ≡ eqb (length rest) 0 → ReadRows s (Ok v)
+  pub lines_end : true ≡ eqb (length rest) 0 → ReadRows s (Ok tt) rules
   lines_end e =
       let z = eqb-true (length rest) 0 (sym e) in
       stop (rows_none (rule_limit - i) i rest z) (rules_none (rule_limit - i) rest z)
@@ -47,7 +46,7 @@ module _ (s rest : List ℕ) (v : ArrayVec Rule) (i : ℕ) (l : LinesLeft s v.it
     more = omega arith
 
     -- the next line has no end
-    pub lines_open : false ≡ eqb (length rest) 0 → before line_feed rest ≡ rest → ReadRows s (Err (record { line = i + 1; part = Line }))
+    pub lines_open : false ≡ eqb (length rest) 0 → before line_feed rest ≡ rest → ReadRows s (Err (record { line = i + 1; part = Line })) rules
     lines_open n e =
         record {
           says = sym (l.says ∙ rw more (rows_open (rule_limit - (i + 1)) i rest (eqb-false (length rest) 0 (sym n)) (ap length e)));
@@ -60,18 +59,18 @@ module _ (s rest : List ℕ) (v : ArrayVec Rule) (i : ℕ) (l : LinesLeft s v.it
       ends = omega (arith, ap length p.1, length-append (before line_feed rest) (line_feed ∷ after line_feed rest))
 
       -- it is bad
-      pub lines_bad : (part : Part) → Err (part_number part) ≡ row_of row → ReadRows s (Err (record { line = i + 1; part = part }))
+      pub lines_bad : (part : Part) → Err (part_number part) ≡ row_of row → ReadRows s (Err (record { line = i + 1; part = part })) rules
       lines_bad part b =
           let line : row_of (before line_feed rest) ≡ Err (part_number part) = sym (b ∙ ap row_of p.0.0) in
           record { says = sym (l.says ∙ rw more (rows_bad (rule_limit - (i + 1)) rest ends i (part_number part) line)); holds = tt }
 
       -- it is good, and its rule is held
-      pub lines_more : (y : Rule) → Ok y ≡ row_of row → (w : ArrayVec Rule) → w.items ≡ v.items ++ (y ∷ []) → LinesLeft s w.items others (i + 1)
-      lines_more y g w a =
+      pub lines_more : (y : Rule) → Ok y ≡ row_of row → (now : List Rule) → now ≡ rules ++ (y ∷ []) → LinesLeft s now others (i + 1)
+      lines_more y g now a =
           let f = rule_limit - (i + 1) in
           let line : row_of (before line_feed rest) ≡ Ok y = sym (g ∙ ap row_of p.0.0) in
           record {
             says = l.says ∙ rw (more, p.0.1) (rows_good f rest ends i y line);
             holds = l.holds ∙ rw (a, append_assoc, more, p.0.1, rules_good f rest ends y line);
-            counts = omega (arith, ap length a, length-append v.items (y ∷ []), l.counts);
+            counts = omega (arith, ap length a, length-append rules (y ∷ []), l.counts);
           }

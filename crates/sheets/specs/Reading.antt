@@ -1,10 +1,9 @@
 -- Reading a sheet: what is answered, and what the lent memory holds afterwards (document 02, order 1).
-use Rattle.std.specs.Prelude.{Bool, not, List, [], ◌∷◌, ◌≡◌, ℕ, zero, suc, ◌+◌, ◌*◌, Result, Ok, Err, IfOk, eqb, ltb, length, if◌then◌else◌}
+use Rattle.std.specs.Prelude.{Bool, not, List, [], ◌∷◌, ◌≡◌, ℕ, zero, suc, ◌+◌, ◌*◌, Result, Ok, Err, OnOk, eqb, ltb, length, if◌then◌else◌}
 use Rattle.answers.specs.Answers.{answer_of, done, one_number, refused}
 use Rattle.answers.specs.Lent.{Lent}
 use Rattle.answers.specs.Refusals as refusal
 use Rattle.answers.specs.declared.Answer.{Answer}
-use Rattle.arrayvec.specs.ArrayVec.{ArrayVec, array_vec_len}
 use Rattle.records.specs.Layout.{rule_limit, rule_size}
 use Rattle.records.specs.Rules.{list_bytes}
 use Rattle.records.specs.declared.Rule.{Rule}
@@ -66,15 +65,15 @@ rules_read (suc f) s =
     let rest = rules_read f (after line_feed s) in
     if ended? s then rule_then (row_of (before line_feed s)) rest else []
 
--- the verdict of the loop over the lines, as the code answers
-abbrev pub rows_as : Result (ArrayVec Rule) BadLine → Result ℕ BadAt
-rows_as (Ok rules) = Ok (array_vec_len rules)
-rows_as (Err b) = Err (bad_at b.line (part_number b.part))
+-- the verdict of the loop over the lines, as the code answers, with n rules read
+abbrev pub rows_as : ℕ → Result Unit BadLine → Result ℕ BadAt
+rows_as n (Ok x) = Ok n
+rows_as n (Err b) = Err (bad_at b.line (part_number b.part))
 
 -- the promise of the loop over the lines: its verdict, and the rules where all lines are good
-pub record ReadRows (s : List ℕ) (r : Result (ArrayVec Rule) BadLine) : Type 0 where
-  pub says : rows_as r ≡ rows_of rule_limit 0 s
-  pub holds : IfOk r (λ rules. rules.items ≡ rules_read rule_limit s)
+pub record ReadRows (s : List ℕ) (r : Result Unit BadLine) (rules : List Rule) : Type 0 where
+  pub says : rows_as (length rules) r ≡ rows_of rule_limit 0 s
+  pub holds : OnOk r (rules ≡ rules_read rule_limit s)
 
 -- the number and values of each answer
 abbrev pub sheet_error_as : SheetError → Answer

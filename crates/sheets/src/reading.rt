@@ -1,6 +1,6 @@
 // Reading a sheet into lent memory. The rules are held until every line is known to be good and the memory to be large
 // enough, so that a refused call changes nothing and the text is gone through once.
-ghost use Rattle.std.specs.Prelude.{◌≡◌, ◌*◌, ◌≤◌, length};
+ghost use Rattle.std.specs.Prelude.{[], ◌≡◌, ◌*◌, ◌≤◌, length};
 ghost use Rattle.fields.specs.Writes.{write_at};
 ghost use Rattle.records.specs.Layout.{rule_size};
 ghost use Rattle.records.specs.Rules.{list_bytes};
@@ -56,10 +56,10 @@ fn many(text: &[u8]) -> bool
 }
 
 // Reads the lines of a text into rules, and stops at the first that is bad.
-fn read_rows(text: &[u8]) -> Result<ArrayVec<Rule, RULE_LIMIT>, BadLine>
-    ensures { ReadRows text.now result }
+fn read_rows(text: &[u8], rules: &mut ArrayVec<Rule, RULE_LIMIT>) -> Result<(), BadLine>
+    requires { rules.old.items ≡ [] }
+    ensures { ReadRows text.now result rules.new.items }
 {
-    let mut rules = ArrayVec::<Rule, RULE_LIMIT>::new();
     let mut rest = text;
     for i in 0..RULE_LIMIT {
         if rest.is_empty() {
@@ -81,7 +81,7 @@ fn read_rows(text: &[u8]) -> Result<ArrayVec<Rule, RULE_LIMIT>, BadLine>
         }
         rest = others;
     }
-    Ok(rules)
+    Ok(())
 }
 
 // Writes the bytes of the rules, one behind the other.
@@ -104,7 +104,8 @@ pub fn read(text: &[u8], rules: &mut [u8]) -> Result<u32, SheetError>
     if many(text) {
         return Err(SheetError::Many);
     }
-    let held = read_rows(text)?;
+    let mut held = ArrayVec::<Rule, RULE_LIMIT>::new();
+    read_rows(text, &mut held)?;
     let bytes = RULE_SIZE * held.len();
     if rules.len() < bytes {
         return Err(SheetError::Room(bytes as u32));

@@ -10,16 +10,16 @@ returns-then-text-gt-SHEET_LIMIT c = sheet_long _ _ c.if-text-gt-SHEET_LIMIT.tru
 pub returns-then-many : goal.returns-then-many
 returns-then-many c = sheet_many _ _ c.if-text-gt-SHEET_LIMIT.false c.if-many.ensures
 
-pub returns-in_err-held : goal.returns-in_err-held
-returns-in_err-held c =
+pub returns-in_err-read_rows : goal.returns-in_err-read_rows
+returns-in_err-read_rows c =
     let p = err_from_is_err_and c.from_residual.result c.from_residual.ensures.1 in
-    rw (p.1, p.2) (sheet_bad _ _ c.if-text-gt-SHEET_LIMIT.false c.if-many.ensures _ c.in_err-held.ensures)
+    rw (p.1, p.2) (sheet_bad _ _ c.if-text-gt-SHEET_LIMIT.false c.if-many.ensures _ _ c.in_err-read_rows.ensures)
 
 pub returns-then-rules-bytes : goal.returns-then-rules-bytes
 returns-then-rules-bytes c =
-    sheet_room _ _ c.if-text-gt-SHEET_LIMIT.false c.if-many.ensures _ c.in_ok-held.ensures _ c.len-bytes.ensures.value c.if-rules-bytes.true
+    sheet_room _ _ c.if-text-gt-SHEET_LIMIT.false c.if-many.ensures _ c.in_ok-read_rows.ensures _ c.len-bytes.ensures.value c.if-rules-bytes.true
 
 pub returns : goal.returns
 returns c =
-    sheet_rules _ _ c.if-text-gt-SHEET_LIMIT.false c.if-many.ensures _ c.in_ok-held.ensures _ c.len.ensures.value (omega arith) _
+    sheet_rules _ _ c.if-text-gt-SHEET_LIMIT.false c.if-many.ensures _ c.in_ok-read_rows.ensures _ c.len.ensures.value (omega arith) _
     (rw c.as_slice.ensures.value at c.put_rules.ensures)

@@ -1,7 +1,6 @@
 -- `sheets::reading::read_rows` meets its contract: what is left of the text completes the verdict and the rules. Assumes nothing.
 use native.Mathlib.Omega.{arith}
 use Rattle.sheets.proofs.LinesLeft.{lines_all, lines_bad, lines_end, lines_more, lines_open}
-use Rattle.sheets.proofs.reading.read_rows.Goals.{else-loop-i-test, then-loop-i-test+then-is_empty}
 use Rattle.sheets.proofs.reading.read_rows.Goals as goal
 
 pub returns-in_default : goal.returns-in_default
@@ -13,9 +12,8 @@ returns-in-Err c = lines_bad _ _ _ _ c.loop-i.invariant c.loop-i-test.true c.in-
 pub loop-i-preserved : goal.loop-i-preserved
 loop-i-preserved c = lines_more _ _ _ _ c.loop-i.invariant c.loop-i-test.true c.in-Some.ensures _ c.in-Ok.ensures _ c.push.ensures.items
 
-pub returns : goal.returns
-returns c =
-    elim c.loop-i-test.branch [
-      | else-loop-i-test w ↦ lines_all _ _ _ _ c.loop-i.invariant (omega arith)
-      | then-loop-i-test+then-is_empty w ↦ lines_end _ _ _ _ c.loop-i.invariant w.if-is_empty.ensures
-    ]
+pub returns-then-is_empty : goal.returns-then-is_empty
+returns-then-is_empty c = lines_end _ _ _ _ c.loop-i.invariant c.if-is_empty.ensures
+
+pub returns-after-loop-i : goal.returns-after-loop-i
+returns-after-loop-i c = lines_all _ _ _ _ c.loop-i.invariant (omega arith)
