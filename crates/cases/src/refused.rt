@@ -1,4 +1,5 @@
-// A refusal as a line shows it: its number, and the values that come with it.
+// A refusal as a line shows it: its number, and the values that come with it. C's answer would not do, since it does not say how
+// many values come with a number.
 use answers::Refusal;
 use intervals::{CheckError, Fault, ListError};
 use rules::{FindError, ListFault};

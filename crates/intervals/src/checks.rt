@@ -31,7 +31,7 @@ fn first_ill(n: u32, words: &[[u16; 2]]) -> Option<usize>
     words.iter().position(|pair| !Word::from(*pair).formed(n))
 }
 
-// One of the words matches x.
+// One of the words matches x. A `for`, since `any` took half as long again.
 fn some_match(words: &[[u16; 2]], x: u16) -> bool
     ensures { result ≡ some? (words_in words.now) x }
 {
@@ -59,7 +59,8 @@ fn first_difference(interval: Interval, words: &[[u16; 2]]) -> Option<u32>
     (0..bits::power(interval.width)).find(|x| !agrees(interval, words, *x))
 }
 
-// Nothing where the first k words match exactly the interval, else the smallest value on which they disagree.
+// Nothing where the first k words match exactly the interval, else the smallest value on which they disagree. The count stands
+// beside the list, as C has it.
 #[tactic(auto, using(crate::proofs::Pairs::words_pairs), unfolding(crate::specs::Checks::checking, crate::specs::Checks::judged, crate::specs::Ends::behind, answers::specs::Answers::behind_ill))]
 pub fn check(n: u32, low: u32, high: u32, list: &[u16], k: usize) -> Result<Option<u32>, CheckError>
     ensures { checked_as result ≡ checking n low high list.now k }

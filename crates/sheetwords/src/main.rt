@@ -74,7 +74,8 @@ fn print_sheet(rt: &impl Print, sheet: &[u8]) -> io::Result<()> {
     }
 }
 
-// Reads until the buffer is full or the input ends; how many bytes were read.
+// Reads until the buffer is full or the input ends; how many bytes were read. Each read says how far it came, so no range has the
+// steps, and `read_to_end` would allocate.
 fn read_full<R: Read>(input: &mut R, sheet: &mut [u8]) -> io::Result<usize>
     ensures { IfOk result (λ n. n ≤ length sheet.new) }
 {

@@ -85,7 +85,7 @@ fn first_record(records: &[[u8; RECORD_SIZE]], header: &[u8; KEY_SIZE]) -> Optio
     None
 }
 
-// The first of the first k records that matches, or nothing where none does.
+// The first of the first k records that matches, or nothing where none does. The count stands beside the table, as C has it.
 #[tactic(auto, using(crate::proofs::Chunked::ill_in, crate::proofs::Chunked::among_in, crate::proofs::Chunked::none_each), unfolding(crate::specs::Looking::looking, crate::specs::Looking::looking_formed, answers::specs::Answers::behind_ill))]
 pub fn find_word(table: &[u8], k: usize, header: &[u8]) -> Result<Option<Found>, LookError>
     ensures { found_as result ≡ looking table.now k header.now }

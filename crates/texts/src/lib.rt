@@ -96,7 +96,8 @@ pub fn word_line(index: u32, bytes: &[u8; RECORD_SIZE]) -> Line
     line
 }
 
-// Writes the line of the record at the start of s, which has this index.
+// Writes the line of the record at the start of s, which has this index; the place after it. A place beside the buffer, since
+// its promise may not change.
 #[tactic(auto, using(crate::proofs::FromRecord::line_take))]
 pub fn put_word(t: &mut [u8], at: usize, index: u32, s: &[u8]) -> usize
     requires room { at + line_size ≤ length t.old }
