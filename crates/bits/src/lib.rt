@@ -13,7 +13,7 @@ const MASKS: [u16; 17] = [
 ];
 
 // The mask of width n with k free bits. A narrower width's mask is the table's, moved down. That a width is 16 at most is asked
-// here, of `free_bits` and of `Word::formed`, each time with something else: a type for widths would be opened at all three.
+// here, of `free_bits`, of `Word::formed` and of `first_ill` in intervals: a type for widths would be opened at all four.
 pub fn mask(n: u32, k: u32) -> u16
     requires { (0 < n) × (n ≤ 16) × (k ≤ n) }
     ensures { result ≡ mask_of n k }

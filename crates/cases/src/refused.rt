@@ -1,5 +1,5 @@
-// A refusal as a line shows it: its number, and the values that come with it. C's answer would not do, since it does not say how
-// many values come with a number.
+// A refusal as a line shows it: its number, and the values that come with it. C's answer would not do: it does not say how many
+// values come with a number, and its index of an ill-formed word is cut to 32 bits.
 use answers::Refusal;
 use intervals::{CheckError, Fault, ListError};
 use rules::{FindError, ListFault};

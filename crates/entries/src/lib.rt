@@ -10,7 +10,7 @@ ghost use Rattle.entries.specs.Words.{Good, WordCount, entry_with, ported_entry,
 ghost use Rattle.entries.specs.Written.{Wrote};
 
 use blocks::{Interval, Word};
-use records::{Entry, Key, Prefix, RECORD_SIZE, Rule};
+use records::{Entry, Key, RECORD_SIZE, Rule};
 
 // The ports from low to high.
 fn ports(low: u16, high: u16) -> Interval
@@ -38,14 +38,6 @@ fn unported(r: Rule, number: u8) -> Entry
     ensures { result ≡ entry_with r number (proto_word r) (word 0 0) (word 0 0) }
 {
     let (value, mask) = protocol(r);
-    let src = Prefix {
-        address: r.src,
-        len: r.slen,
-    };
-    let dst = Prefix {
-        address: r.dst,
-        len: r.dlen,
-    };
     Entry {
         value: Key {
             proto: value,
@@ -56,8 +48,8 @@ fn unported(r: Rule, number: u8) -> Entry
         },
         mask: Key {
             proto: mask,
-            src: src.mask(),
-            dst: dst.mask(),
+            src: r.source().mask(),
+            dst: r.dest().mask(),
             sport: 0,
             dport: 0,
         },

@@ -27,7 +27,6 @@ walk_of n low high = record { width = n; next = low; last = high; ended = false 
 abbrev pub ended_at : ℕ → ℕ → ℕ → Walk
 ended_at n low high = record { width = n; next = low; last = high; ended = true }
 
--- document 01's number and values for each answer to the walk w, which comes back where no word was given
 abbrev pub stepped_by : Step → Stepped
 stepped_by s = record { no = 0; given = 1; word = s.word; walk = s.walk }
 
@@ -36,6 +35,7 @@ abbrev pub walk_behind : Walk → Option Interval → Walk
 walk_behind w None = record { width = w.width; next = w.next; last = w.last; ended = true }
 walk_behind w (Some i) = record { width = w.width; next = i.low; last = w.last; ended = w.ended }
 
+-- document 01's number and values for each answer to the walk w, which comes back where no word was given
 abbrev pub stepped_as : Walk → Result (Option Step) Fault → Stepped
 stepped_as w (Ok (Some s)) = stepped_by s
 stepped_as w (Ok None) = record { no = 0; given = 0; word = zeros; walk = w }

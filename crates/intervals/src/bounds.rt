@@ -17,10 +17,7 @@ fn place_of(a: i32, top: u32) -> Option<u32>
     requires { top ≤ 65536 }
     ensures { result ≡ place a top }
 {
-    if a < -1 {
-        return None;
-    }
-    if 65536 < a {
+    if !(-1..=65536).contains(&a) {
         return None;
     }
     let past = (a + 1) as u32;
@@ -40,10 +37,7 @@ pub fn close(n: u32, a: i32, b: i32) -> Result<Closed, Fault>
     let top = bits::power(n);
     let p = place_of(a, top).ok_or(Fault::Fit)?;
     let q = place_of(b, top).ok_or(Fault::Fit)?;
-    if q < 2 {
-        return Err(Fault::Order);
-    }
-    if q - 2 < p {
+    if q < p + 2 {
         return Err(Fault::Order);
     }
     Ok(Closed {

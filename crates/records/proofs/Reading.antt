@@ -1,17 +1,21 @@
--- What is read from bytes: a header's and a rule's numbers fit, and a table's records stand behind each other.
--- Assumes nothing.
+-- What is read from bytes: a header's and a rule's numbers fit, a table's records stand behind each other, and one turn
+-- of a loop over the rules. Assumes nothing.
 use mathlib.Core.List.{List, [], ◌∷◌, ◌++◌, append_assoc}
 use mathlib.Core.Path.{◌≡◌, refl, sym, ap, ◌∙◌}
-use Prim.Native.Nat.{ℕ, ◌*◌}
+use Prim.Native.Nat.{ℕ, suc, ◌+◌, ◌-◌, ◌*◌, ◌≤◌, ◌<◌}
+use native.Mathlib.Nat.{sub-zero}
 use native.Mathlib.Omega.{arith}
-use lib.ListN.{length}
+use lib.ListN.{length, take, drop}
+use lib.Seq.{drop-drop}
 use Rattle.fields.specs.Bytes.{Bytes}
 use Rattle.fields.proofs.Numbers.{at2_small, at4_small}
+use Rattle.fields.proofs.Writing.{rest_is}
 use Rattle.records.specs.Entries.{entry_bytes, table_bytes}
 use Rattle.records.specs.declared.Entry.{Entry}
 use Rattle.records.specs.Keys.{KeyFits, key_at, key_bytes}
-use Rattle.records.specs.Layout.{record_size}
-use Rattle.records.specs.Rules.{RuleFits, rule_at}
+use Rattle.records.specs.Layout.{record_size, rule_size}
+use Rattle.records.specs.Rules.{RuleFits, rule_at, rules_of}
+use Rattle.records.specs.declared.Rule.{Rule}
 
 -- ---- numbers that fit
 
@@ -49,3 +53,23 @@ pub table_append : (es fs : List Entry) → table_bytes (es ++ fs) ≡ table_byt
 unfolding table_bytes
 table_append [] fs = refl
 table_append (e ∷ es) fs = ap (λ (l : List ℕ). entry_bytes e ++ l) (table_append es fs) ∙ sym (append_assoc (entry_bytes e) (table_bytes es) (table_bytes fs))
+
+-- ---- one turn of a loop over the rules
+
+-- of n rules those from the i-th on, which stands at place at
+abbrev pub rules_from : List ℕ → ℕ → ℕ → ℕ → List Rule
+rules_from l n i at = rules_of (n - i) (drop at l)
+
+pub rules_start : (l : List ℕ) (n : ℕ) → rules_from l n 0 0 ≡ rules_of n l
+rules_start l n = ap (λ (k : ℕ). rules_of k l) (sub-zero n)
+
+pub rules_turn : (l : List ℕ) (n i at : ℕ) (r : Rule) → i < n → r ≡ rule_at (take (length l - at) (drop at l))
+    → rules_from l n i at ≡ r ∷ rules_from l n (i + 1) (at + rule_size)
+unfolding rules_of
+rules_turn l n i at r h e =
+    let k : n - i ≡ suc (n - (i + 1)) = omega arith in
+    rw (k, e, rest_is l at) (ap (λ (x : List ℕ). rule_at (drop at l) ∷ rules_of (n - (i + 1)) x) (drop-drop rule_size at l))
+
+pub rules_none : (l : List ℕ) (n i at : ℕ) → n ≤ i → rules_from l n i at ≡ []
+unfolding rules_of
+rules_none l n i at h = let k : n - i ≡ 0 = omega arith in rw k

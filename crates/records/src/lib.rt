@@ -2,7 +2,7 @@
 // Sizes, offsets and limits are named here and in specs/ and nowhere else.
 #![tactic(auto)]
 
-ghost use Rattle.std.specs.Prelude.{◌≡◌};
+ghost use Rattle.std.specs.Prelude.{◌≡◌, ◌≤◌};
 ghost use Rattle.records.specs.Keys.{key_at, key_bytes};
 ghost use Rattle.records.specs.Entries.{entry_bytes};
 ghost use Rattle.records.specs.Rules.{rule_at, rule_bytes};
@@ -103,6 +103,28 @@ impl Rule {
             dlow: u16::from_be_bytes([s[16], s[17]]),
             dhigh: u16::from_be_bytes([s[18], s[19]]),
             action: s[20],
+        }
+    }
+
+    // The source prefix of a rule whose length is in range.
+    pub fn source(self) -> Prefix
+        requires { self.slen ≤ 32 }
+        ensures { (result.address ≡ self.src) × (result.len ≡ self.slen) }
+    {
+        Prefix {
+            address: self.src,
+            len: self.slen,
+        }
+    }
+
+    // The destination prefix of a rule whose length is in range.
+    pub fn dest(self) -> Prefix
+        requires { self.dlen ≤ 32 }
+        ensures { (result.address ≡ self.dst) × (result.len ≡ self.dlen) }
+    {
+        Prefix {
+            address: self.dst,
+            len: self.dlen,
         }
     }
 

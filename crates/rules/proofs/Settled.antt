@@ -6,16 +6,14 @@ use mathlib.Core.Path.{◌≡◌, refl, sym, ap, ◌∙◌}
 use Prim.Native.Nat.{ℕ}
 use native.Mathlib.Omega.{arith}
 use lib.Dec.{eqb}
-use Rattle.std.specs.Prelude.{IfOk, Option, None, Some, Result, Ok, Err, if◌then◌else◌}
+use Rattle.std.specs.Prelude.{Option, None, Some, Result, Ok, Err, if◌then◌else◌}
 use Rattle.answers.proofs.ReadBack.{back}
 use Rattle.answers.specs.Refusals as refusal
 use Rattle.answers.specs.declared.Answer.{Answer}
-use Rattle.records.specs.Rules.{all_rules}
-use Rattle.records.specs.declared.Rule.{Rule}
 use Rattle.records.proofs.ReadBack.{action_back, action_from}
-use Rattle.rules.specs.Faults.{field_numbered, list_fault_as, tested_rules}
+use Rattle.rules.specs.Faults.{field_numbered, list_fault_as}
 use Rattle.rules.specs.Finding.{finding, found_as}
-use Rattle.rules.specs.Lists.{rules_in, tested_as}
+use Rattle.rules.specs.Outcomes.{TestedAs, rules_as}
 use Rattle.rules.specs.declared.faults.ListFault.{ListFault}
 use Rattle.rules.specs.declared.faults.ListFault.TheVariants.{Odd, Many, Bad}
 use Rattle.rules.specs.declared.finding.FindError.{FindError}
@@ -61,18 +59,8 @@ fault_some (Bad i f) e = omega arith
 
 -- ---- two outcomes
 
--- the rules of the list that a test hands out, or its fault
-abbrev pub rules_as : Result RuleList ListFault → Result (List Rule) ListFault
-rules_as (Ok x) = Ok (rules_in x.records.now)
-rules_as (Err f) = Err f
-
 module _ (l : List ℕ) where
-  -- what the contract of `test_rules` says of an outcome
-  pub record TestedAs (r : Result RuleList ListFault) : Type 0 where
-    pub says : tested_as r ≡ tested_rules l
-    pub holds : IfOk r (λ (x : RuleList). rules_in x.records.now ≡ all_rules l)
-
-  pub one_test : (r s : Result RuleList ListFault) → TestedAs r → TestedAs s → rules_as r ≡ rules_as s
+  pub one_test : (r s : Result RuleList ListFault) → TestedAs l r → TestedAs l s → rules_as r ≡ rules_as s
   one_test (Ok x) (Ok y) p q = ap Ok (p.holds ∙ sym q.holds)
   one_test (Ok x) (Err f) p q = cc
   one_test (Err e) (Ok y) p q = cc

@@ -3,3 +3,4 @@ pub mod Lowest
 pub mod Meaning
 pub mod Finding
 pub mod Lists
+pub mod Outcomes

@@ -5,7 +5,7 @@ ghost use Rattle.rules.specs.Faults.{bad_field, field_number, field_or_0, tested
 ghost use Rattle.rules.specs.Lists.{rules_in, tested_as};
 
 use crate::lists::RuleList;
-use records::{Action, Prefix, RULE_LIMIT, RULE_SIZE, Rule};
+use records::{Action, RULE_LIMIT, RULE_SIZE, Rule};
 
 // The tests of a rule's fields, by document 01's numbers.
 #[derive(Clone, Copy, Debug, PartialEq, Eq)]
@@ -55,21 +55,13 @@ fn bad_field(r: Rule) -> Option<Field>
     if 32 < r.slen {
         return Some(Field::SourceLength);
     }
-    let source = Prefix {
-        address: r.src,
-        len: r.slen,
-    };
-    if source.beyond() {
+    if r.source().beyond() {
         return Some(Field::SourceBits);
     }
     if 32 < r.dlen {
         return Some(Field::DestLength);
     }
-    let dest = Prefix {
-        address: r.dst,
-        len: r.dlen,
-    };
-    if dest.beyond() {
+    if r.dest().beyond() {
         return Some(Field::DestBits);
     }
     if r.shigh < r.slow {

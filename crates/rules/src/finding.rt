@@ -6,7 +6,7 @@ ghost use Rattle.rules.specs.Meaning.{first_rule, port_match, rule_match};
 
 use crate::faults::{ListFault, test_rules};
 use crate::lists::RuleList;
-use records::{Action, KEY_SIZE, Key, Prefix, Rule};
+use records::{Action, KEY_SIZE, Key, Rule};
 
 // A rule's number from 0, and its action.
 #[derive(Clone, Copy, Debug, PartialEq, Eq)]
@@ -41,17 +41,9 @@ fn rule_matches(r: Rule, h: Key) -> bool
     requires { (r.slen ≤ 32) × (r.dlen ≤ 32) }
     ensures { result ≡ rule_match r h }
 {
-    let source = Prefix {
-        address: r.src,
-        len: r.slen,
-    };
-    let dest = Prefix {
-        address: r.dst,
-        len: r.dlen,
-    };
     (r.flag == 1 || h.proto == r.proto)
-        && source.matches(h.src)
-        && dest.matches(h.dst)
+        && r.source().matches(h.src)
+        && r.dest().matches(h.dst)
         && port_matches(r.slow, r.shigh, h.sport)
         && port_matches(r.dlow, r.dhigh, h.dport)
 }

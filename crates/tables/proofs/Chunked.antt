@@ -1,11 +1,13 @@
 -- A table cut into records: its first k records, as a list, are what is tested and looked through from its bytes; and where
 -- none of a list is ill formed, each is well formed. Assumes nothing.
-use mathlib.Core.Bool.{Bool, true, false}
+use mathlib.Core.Bool.{Bool, true, false, cond, not}
 use mathlib.Core.List.{List, [], ◌∷◌}
 use mathlib.Core.Path.{◌≡◌, refl, ap, ◌∙◌}
 use Prim.Native.Nat.{ℕ, zero, suc, ◌+◌, ◌/◌, ◌≤◌, ◌<◌}
 use native.Mathlib.Omega.{arith}
 use lib.ListN.{drop, length, take}
+use Rattle.std.proofs.lemmas.Iterator.Adapters.{position_from-zero}
+use Rattle.std.specs.List.{position, position_from}
 use Rattle.std.specs.Prelude.{None, Some, if◌then◌else◌}
 use Rattle.std.specs.Simd.{first_chunks}
 use Rattle.records.proofs.Chunks.{action_take, mask_take, number_take, value_take}
@@ -48,6 +50,20 @@ module _ (t : List ℕ) (k : ℕ) (fit : k ≤ room_of (length t)) (all : List (
 
   pub among_in : (h : List ℕ) → first_record k 0 t h ≡ first_among 0 (take k all) h
   among_in h = rw first_all (among_chunks k 0 t h)
+
+-- ---- as `position` finds it
+
+ill_from : (i : ℕ) (rs : List (List ℕ)) → position_from (λ r. not (record_formed? r)) i rs ≡ first_ill_among i rs
+unfolding first_ill_among
+ill_from i [] = refl
+ill_from i (r ∷ rs) = rw (ill_from (i + 1) rs) (turned (record_formed? r) _ _)
+  where
+    turned : {B : Type 0} (b : Bool) (x y : B) → cond (not b) x y ≡ cond b y x
+    turned true x y = refl
+    turned false x y = refl
+
+pub ill_position : (rs : List (List ℕ)) → position (λ r. not (record_formed? r)) rs ≡ first_ill_among 0 rs
+ill_position rs = position_from-zero (λ r. not (record_formed? r)) rs ∙ ill_from 0 rs
 
 -- ---- where none is ill formed
 

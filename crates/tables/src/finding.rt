@@ -54,16 +54,10 @@ fn formed_record(bytes: &[u8; RECORD_SIZE]) -> bool
 }
 
 // The lowest index of an ill-formed record.
-#[tactic(auto, unfolding(crate::specs::Records::first_ill_among))]
 fn first_ill(records: &[[u8; RECORD_SIZE]]) -> Option<usize>
     ensures { result ≡ first_ill_among 0 records.now }
 {
-    for (i, record) in records.iter().enumerate() {
-        if !formed_record(record) {
-            return Some(i);
-        }
-    }
-    None
+    records.iter().position(|record| !formed_record(record))
 }
 
 // The first record that matches.

@@ -117,7 +117,8 @@ impl ToAnswer for ListError {
     }
 }
 
-// The index of an ill-formed word in 32 bits: it is any number, where the list is that long.
+// The index of an ill-formed word in 32 bits (`in32`): it is any number, where the list is that long, so a conversion that
+// fails would not do.
 fn low32(x: usize) -> u32
     ensures { result ≡ x % 2 ^ 32 }
 {

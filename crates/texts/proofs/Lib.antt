@@ -1,2 +1,3 @@
+pub mod Behind
 pub mod Digits
 pub mod FromRecord
