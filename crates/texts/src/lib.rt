@@ -35,10 +35,7 @@ fn hex_digit(d: u8) -> u8
     requires { d < 16 }
     ensures { result ≡ hex_digit d }
 {
-    if d < 10 {
-        return b'0' + d;
-    }
-    b'A' + (d - 10)
+    b"0123456789ABCDEF"[usize::from(d)]
 }
 
 // Adds the bytes of s as two hex digits each, and a tab.
