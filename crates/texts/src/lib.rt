@@ -17,28 +17,17 @@ pub const LINE_SIZE: usize = 80;
 // A line of text, as far as it is written.
 pub type Line = ArrayVec<u8, LINE_SIZE>;
 
-// Adds x in decimal.
-#[tactic(auto, using(std::proofs::lemmas::Grind::common_steps, crate::proofs::Digits::decimal_last, crate::proofs::Digits::decimal_more))]
-fn push_decimal(line: &mut Line, x: u32)
-    requires room { array_vec_len line.old + length (decimal x) ≤ line_size }
-    requires few { x < 100000 }
-    ensures { line.new.items ≡ line.old.items ++ decimal x }
-{
-    if 10 <= x {
-        push_decimal(line, x / 10);
-    }
-    line.push(b'0' + (x % 10) as u8);
-}
-
 // Adds x in decimal, and a tab.
-#[tactic(auto, using(std::proofs::lemmas::Grind::common_steps, crate::proofs::Digits::decimal_few))]
+#[tactic(auto, using(std::proofs::lemmas::Grind::common_steps, crate::proofs::Digits::decimal_few, crate::proofs::Digits::decimal_same))]
 fn push_number(line: &mut Line, x: u32)
     requires room { array_vec_len line.old + 6 ≤ line_size }
     requires few { x < 100000 }
     ensures text { line.new.items ≡ line.old.items ++ (decimal x ++ (tab ∷ [])) }
     ensures short { array_vec_len line.new ≤ array_vec_len line.old + 6 }
 {
-    push_decimal(line, x);
+    let mut digits = itoa::Buffer::new();
+    line.try_extend_from_slice(digits.format(x).as_bytes())
+        .unwrap();
     line.push(b'\t');
 }
 
@@ -46,10 +35,7 @@ fn hex_digit(d: u8) -> u8
     requires { d < 16 }
     ensures { result ≡ hex_digit d }
 {
-    if d < 10 {
-        return b'0' + d;
-    }
-    b'A' + (d - 10)
+    b"0123456789ABCDEF"[usize::from(d)]
 }
 
 // Adds the bytes of s as two hex digits each, and a tab.
