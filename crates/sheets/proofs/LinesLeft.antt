@@ -1,22 +1,34 @@
 -- A turn of reading lines: what is left of the text completes the verdict and the rules. Assumes nothing.
 use mathlib.Core.Bool.{true, false}
 use mathlib.Core.List.{List, [], ◌∷◌, ◌++◌, append_assoc, append-nil}
-use mathlib.Core.Path.{◌≡◌, sym, ap, ◌∙◌}
+use mathlib.Core.Path.{◌≡◌, refl, sym, ap, ◌∙◌}
 use Prim.Native.Nat.{ℕ, suc, ◌+◌, ◌-◌, ◌<◌}
 use native.Mathlib.Omega.{arith}
 use lib.Dec.{eqb}
 use lib.ListN.{length, length-append}
 use borrow.Author.Tests.{eqb-false, eqb-true}
-use Rattle.std.specs.Prelude.{Ok, Err}
+use Rattle.std.specs.Borrow.{Bor}
+use Rattle.std.specs.Prelude.{MatchResult, Option, None, Some, Result, Ok, Err, is_ok}
 use Rattle.records.specs.Layout.{rule_limit}
 use Rattle.records.specs.declared.Rule.{Rule}
-use Rattle.sheets.specs.Cuts.{after, before}
+use Rattle.sheets.specs.Cuts.{Cut, after, before}
 use Rattle.sheets.specs.Reading.{ReadRows, rows_of, rules_read}
 use Rattle.sheets.specs.Rows.{part_number, row_of}
+use Rattle.sheets.specs.declared.reading.BadLine.{BadLine}
 use Rattle.sheets.specs.declared.rows.Part.{Part}
 use Rattle.sheets.specs.declared.rows.Part.TheVariants.{Line}
 use Rattle.sheets.proofs.Lines.{rows_all, rows_bad, rows_good, rows_none, rows_open, rules_all, rules_good, rules_none}
 use Rattle.texts.specs.Lines.{line_feed}
+
+-- a line whose rule `map_err` leaves is good
+pub mapped_good : (Q : Part → Type 0) (r : Result Rule Part) (y : Rule) → MatchResult r (λ x. ◌≡◌ {A = Result Rule BadLine} (Ok y) (Ok x)) Q → true ≡ is_ok r → r ≡ Ok y
+mapped_good Q (Ok x) y e v = cc
+mapped_good Q (Err p) y e v = cc
+
+-- and one whose part it changes is bad
+pub mapped_bad : (P : Rule → Type 0) (Q : Part → Type 0) (r : Result Rule Part) → MatchResult r P Q → false ≡ is_ok r → (p : Part) × (r ≡ Err p) × Q p
+mapped_bad P Q (Ok x) e v = cc
+mapped_bad P Q (Err p) e v = (p, refl, e)
 
 -- i lines are read into rules, and the rest is left
 pub record LinesLeft (s : List ℕ) (rules : List Rule) (rest : List ℕ) (i : ℕ) : Type 0 where
@@ -46,8 +58,9 @@ module _ (s rest : List ℕ) (rules : List Rule) (i : ℕ) (l : LinesLeft s rule
     more = omega arith
 
     -- the next line has no end
-    pub lines_open : false ≡ eqb (length rest) 0 → before line_feed rest ≡ rest → ReadRows s (Err (record { line = i + 1; part = Line })) rules
-    lines_open n e =
+    pub lines_open : false ≡ eqb (length rest) 0 → (o : Option (Bor (List ℕ) × Bor (List ℕ))) → Cut line_feed rest o → o ≡ None → ReadRows s (Err (record { line = i + 1; part = Line })) rules
+    lines_open n (Some x) e z = cc
+    lines_open n None e z =
         record {
           says = sym (l.says ∙ rw more (rows_open (rule_limit - (i + 1)) i rest (eqb-false (length rest) 0 (sym n)) (ap length e)));
           holds = tt;

@@ -15,11 +15,10 @@ use Rattle.sheets.specs.Cuts.{after, before, times}
 use Rattle.sheets.specs.Numbers.{none}
 use Rattle.sheets.specs.Parts.{Address, Ports, action_of, address_of, any, bad_address, bad_ports, no_action, ports_of, protocol_of}
 use Rattle.sheets.specs.Rows.{row_from, row_of, rule_of}
-use Rattle.sheets.specs.declared.rows.Part.{Part}
 use Rattle.texts.specs.Lines.{tab}
 
--- the part that is named where something is missing
-pub missing : {A : Type 0} (o : Option A) (e f : Part) → Err f ≡ ok_or o e → o ≡ None → f ≡ e
+-- what is named where something is missing
+pub missing : {A E : Type 0} (o : Option A) (e f : E) → Err f ≡ ok_or o e → o ≡ None → f ≡ e
 missing o e f h n = let k = rw n at h in cc
 
 pub action_last : (a : Action) → action_number a ≤ last_action

@@ -39,7 +39,7 @@ read_from r =
     if eqb r.no 0 then Ok r.a
     else if eqb r.no refusal.long then Err Long
     else if eqb r.no refusal.many then Err Many
-    else if eqb r.no refusal.line then Err (Bad r.a (part_from r.b))
+    else if eqb r.no refusal.line then Err (Bad (record { line = r.a; part = part_from r.b }))
     else Err (Room r.a)
 
 read_back : (r : Result ℕ SheetError) → read_from (read_as r) ≡ r
@@ -47,7 +47,7 @@ unfolding read_from
 read_back (Ok n) = refl
 read_back (Err Long) = refl
 read_back (Err Many) = refl
-read_back (Err (Bad line part)) = rw (part_back part)
+read_back (Err (Bad b)) = rw (part_back b.part)
 read_back (Err (Room bytes)) = refl
 
 pub one_read : (s held : List ℕ) (r u : Result ℕ SheetError) (x y : List ℕ) → Reading s held (read_as r) x → Reading s held (read_as u) y → (r ≡ u) × (x ≡ y)

@@ -79,7 +79,7 @@ pub record ReadRows (s : List ℕ) (r : Result Unit BadLine) (rules : List Rule)
 abbrev pub sheet_error_as : SheetError → Answer
 sheet_error_as Long = refused refusal.long 0 0
 sheet_error_as Many = refused refusal.many 0 0
-sheet_error_as (Bad line part) = refused refusal.line line (part_number part)
+sheet_error_as (Bad b) = refused refusal.line b.line (part_number b.part)
 sheet_error_as (Room bytes) = refused refusal.room bytes 0
 
 abbrev pub read_as : Result ℕ SheetError → Answer
@@ -87,7 +87,7 @@ read_as = answer_of one_number sheet_error_as
 
 -- a bad line as an error of reading
 abbrev pub line_error : BadLine → SheetError
-line_error b = Bad b.line b.part
+line_error b = Bad b
 
 -- the answer where the lines are tested, and so many bytes are lent
 unfoldable pub behind_rows : Result ℕ BadAt → ℕ → Answer

@@ -7,5 +7,5 @@ mod parts;
 mod reading;
 mod rows;
 
-pub use reading::{SHEET_LIMIT, SheetError, read};
+pub use reading::{BadLine, SHEET_LIMIT, SheetError, read};
 pub use rows::Part;

@@ -24,11 +24,7 @@ pub struct Ports {
 fn octet(s: &[u8]) -> Option<u8>
     ensures { number_or_none result ≡ spec.octet_of (number_of s.now) }
 {
-    let x = number(s)?;
-    if 255 < x {
-        return None;
-    }
-    Some(x as u8)
+    u8::try_from(number(s)?).ok()
 }
 
 pub fn read_protocol(s: &[u8]) -> Option<Protocol>

@@ -23,7 +23,7 @@ pub enum SheetError {
     // 6: there are too many lines.
     Many,
     // 20: the first bad line, from 1, and its first bad part.
-    Bad { line: u32, part: Part },
+    Bad(BadLine),
     // 4: so many bytes are needed.
     Room(u32),
 }
@@ -39,8 +39,7 @@ impl From<BadLine> for SheetError {
     ghost from_gives = { λ bad error. error ≡ line_error bad };
 
     fn from(bad: BadLine) -> SheetError {
-        let BadLine { line, part } = bad;
-        SheetError::Bad { line, part }
+        SheetError::Bad(bad)
     }
 }
 
@@ -55,7 +54,8 @@ fn many(text: &[u8]) -> bool
     !rest.is_empty()
 }
 
-// Reads the lines of a text into rules, and stops at the first that is bad.
+// Reads the lines of a text into rules, and stops at the first that is bad. The vector is lent, and must be empty: one that
+// is returned in a Result is copied, and takes the stack of one more list.
 fn read_rows(text: &[u8], rules: &mut ArrayVec<Rule, RULE_LIMIT>) -> Result<(), BadLine>
     requires { rules.old.items ≡ [] }
     ensures { ReadRows text.now result rules.new.items }
@@ -66,19 +66,11 @@ fn read_rows(text: &[u8], rules: &mut ArrayVec<Rule, RULE_LIMIT>) -> Result<(), 
             break;
         }
         let line = i as u32 + 1;
-        let unended = BadLine {
+        let (row, others) = cut(rest, LINE_FEED).ok_or(BadLine {
             line,
             part: Part::Line,
-        };
-        let Some((row, others)) = cut(rest, LINE_FEED) else {
-            return Err(unended);
-        };
-        match read_row(row) {
-            Ok(rule) => rules.push(rule),
-            Err(part) => {
-                return Err(BadLine { line, part });
-            }
-        }
+        })?;
+        rules.push(read_row(row).map_err(|part| BadLine { line, part })?);
         rest = others;
     }
     Ok(())

@@ -190,7 +190,7 @@ impl ToAnswer for SheetError {
         match self {
             SheetError::Long => Answer::refused(Refusal::Long, 0, 0),
             SheetError::Many => Answer::refused(Refusal::Many, 0, 0),
-            SheetError::Bad { line, part } => Answer::refused(Refusal::Line, line, part.into()),
+            SheetError::Bad(bad) => Answer::refused(Refusal::Line, bad.line, bad.part.into()),
             SheetError::Room(bytes) => Answer::refused(Refusal::Room, bytes, 0),
         }
     }
