@@ -39,6 +39,11 @@ pub rows_open : (f i : ℕ) (s : List ℕ) → (length s ≡ 0 → ⊥) → leng
 unfolding rows_of
 rows_open f i s n e = simp (ne_eqb (length s) 0 n, le-ltb (length (before line_feed s)) (length s) (omega arith))
 
+pub rules_open : (f : ℕ) (s : List ℕ) → length (before line_feed s) ≡ length s → rules_read f s ≡ []
+unfolding rules_read
+rules_open zero s e = refl
+rules_open (suc f) s e = simp (le-ltb (length (before line_feed s)) (length s) (omega arith))
+
 -- ---- a line with its end
 
 module _ (f : ℕ) (s : List ℕ) (h : length (before line_feed s) < length s) where
@@ -47,6 +52,10 @@ module _ (f : ℕ) (s : List ℕ) (h : length (before line_feed s) < length s) w
   rows_bad i k e =
       let n : length s ≡ 0 → ⊥ = λ (z : length s ≡ 0). omega arith in
       simp (ne_eqb (length s) 0 n, lt-ltb (length (before line_feed s)) (length s) h, e)
+
+  pub rules_bad : (k : ℕ) → row_of (before line_feed s) ≡ Err k → rules_read (suc f) s ≡ []
+  unfolding rules_read
+  rules_bad k e = simp (lt-ltb (length (before line_feed s)) (length s) h, e)
 
   pub rows_good : (i : ℕ) (r : Rule) → row_of (before line_feed s) ≡ Ok r → rows_of (suc f) i s ≡ rows_of f (i + 1) (after line_feed s)
   unfolding rows_of

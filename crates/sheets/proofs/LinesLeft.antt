@@ -17,7 +17,7 @@ use Rattle.sheets.specs.Rows.{part_number, row_of}
 use Rattle.sheets.specs.declared.reading.BadLine.{BadLine}
 use Rattle.sheets.specs.declared.rows.Part.{Part}
 use Rattle.sheets.specs.declared.rows.Part.TheVariants.{Line}
-use Rattle.sheets.proofs.Lines.{rows_all, rows_bad, rows_good, rows_none, rows_open, rules_all, rules_good, rules_none}
+use Rattle.sheets.proofs.Lines.{rows_all, rows_bad, rows_good, rows_none, rows_open, rules_all, rules_bad, rules_good, rules_none, rules_open}
 use Rattle.texts.specs.Lines.{line_feed}
 
 -- a line whose rule `map_err` leaves is good
@@ -37,9 +37,13 @@ pub record LinesLeft (s : List ℕ) (rules : List Rule) (rest : List ℕ) (i : �
   pub counts : length rules ≡ i
 
 module _ (s rest : List ℕ) (rules : List Rule) (i : ℕ) (l : LinesLeft s rules rest i) where
+  -- no other rule is read
+  held : rules_read (rule_limit - i) rest ≡ [] → rules ≡ rules_read rule_limit s
+  held z = sym (l.holds ∙ rw z (append-nil rules))
+
   -- no line is left
   stop : rows_of (rule_limit - i) i rest ≡ Ok i → rules_read (rule_limit - i) rest ≡ [] → ReadRows s (Ok tt) rules
-  stop e z = record { says = ap Ok l.counts ∙ sym (l.says ∙ e); holds = sym (l.holds ∙ rw z (append-nil rules)) }
+  stop e z = record { says = ap Ok l.counts ∙ sym (l.says ∙ e); holds = held z }
 
   -- all lines that are allowed are read
   pub lines_all : i ≡ rule_limit → ReadRows s (Ok tt) rules
@@ -63,7 +67,7 @@ module _ (s rest : List ℕ) (rules : List Rule) (i : ℕ) (l : LinesLeft s rule
     lines_open n None e z =
         record {
           says = sym (l.says ∙ rw more (rows_open (rule_limit - (i + 1)) i rest (eqb-false (length rest) 0 (sym n)) (ap length e)));
-          holds = tt;
+          holds = held (rules_open (rule_limit - i) rest (ap length e));
         }
 
     module _ {row others : List ℕ}
@@ -75,7 +79,7 @@ module _ (s rest : List ℕ) (rules : List Rule) (i : ℕ) (l : LinesLeft s rule
       pub lines_bad : (part : Part) → Err (part_number part) ≡ row_of row → ReadRows s (Err (record { line = i + 1; part = part })) rules
       lines_bad part b =
           let line : row_of (before line_feed rest) ≡ Err (part_number part) = sym (b ∙ ap row_of p.0.0) in
-          record { says = sym (l.says ∙ rw more (rows_bad (rule_limit - (i + 1)) rest ends i (part_number part) line)); holds = tt }
+          record { says = sym (l.says ∙ rw more (rows_bad (rule_limit - (i + 1)) rest ends i (part_number part) line)); holds = held (rw more (rules_bad (rule_limit - (i + 1)) rest ends (part_number part) line)) }
 
       -- it is good, and its rule is held
       pub lines_more : (y : Rule) → Ok y ≡ row_of row → (now : List Rule) → now ≡ rules ++ (y ∷ []) → LinesLeft s now others (i + 1)

@@ -1,5 +1,5 @@
 -- Reading a sheet: what is answered, and what the lent memory holds afterwards (document 02, order 1).
-use Rattle.std.specs.Prelude.{Bool, not, List, [], ◌∷◌, ◌≡◌, ℕ, zero, suc, ◌+◌, ◌*◌, Result, Ok, Err, OnOk, eqb, ltb, length, if◌then◌else◌}
+use Rattle.std.specs.Prelude.{Bool, not, List, [], ◌∷◌, ◌≡◌, ℕ, zero, suc, ◌+◌, ◌*◌, Result, Ok, Err, eqb, ltb, length, if◌then◌else◌}
 use Rattle.answers.specs.Answers.{answer_of, done, one_number, refused}
 use Rattle.answers.specs.Lent.{Lent}
 use Rattle.answers.specs.Refusals as refusal
@@ -70,10 +70,10 @@ abbrev pub rows_as : ℕ → Result Unit BadLine → Result ℕ BadAt
 rows_as n (Ok x) = Ok n
 rows_as n (Err b) = Err (bad_at b.line (part_number b.part))
 
--- the promise of the loop over the lines: its verdict, and the rules where all lines are good
+-- the promise of the loop over the lines: its verdict, and the rules as far as the lines are good
 pub record ReadRows (s : List ℕ) (r : Result Unit BadLine) (rules : List Rule) : Type 0 where
   pub says : rows_as (length rules) r ≡ rows_of rule_limit 0 s
-  pub holds : OnOk r (rules ≡ rules_read rule_limit s)
+  pub holds : rules ≡ rules_read rule_limit s
 
 -- the number and values of each answer
 abbrev pub sheet_error_as : SheetError → Answer
