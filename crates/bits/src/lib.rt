@@ -45,7 +45,7 @@ pub fn low_zeros(x: u32) -> u32
     u32::trailing_zeros(x)
 }
 
-// The highest bit of x that is 1.
+// The highest bit of x that is 1: by leading zeros, the form that document 01 names, where `ilog2` says the same.
 pub fn highest(x: u32) -> u32
     requires { 0 < x }
     ensures { (2 ^ result ≤ x) × (x < 2 ^ suc result) }

@@ -77,7 +77,7 @@ fn ported(entry: Entry, source: Word, dest: Word) -> Entry
     }
 }
 
-// Writes a rule's records at the start of what is lent, and hands back how many bytes they take.
+// Writes a rule's records at the start of what is lent, and hands back how many bytes they take (`Wrote`, so it counts them).
 pub fn put_rule(t: &mut [u8], r: Rule, number: u8) -> usize
     requires good { Good r }
     requires room { record_size * length (rule_entries number r) ≤ length t.old }

@@ -17,6 +17,10 @@ number_of Order = refusal.order
 abbrev pub fault_as : Fault → Answer
 fault_as f = refused (number_of f) 0 0
 
+-- the test of a width alone
+abbrev pub width_tested : ℕ → Result Unit Fault
+width_tested n = if ltb n 1 || ltb 16 n then Err Width else Ok tt
+
 unfoldable pub tested : ℕ → ℕ → ℕ → Result Unit Fault
 tested n low high =
     if ltb n 1 || ltb 16 n then Err Width

@@ -3,7 +3,7 @@
 ghost use Rattle.std.specs.Prelude.{◌≡◌, ◌≤◌};
 ghost use Rattle.intervals.specs.Bounds.{closed_as, closing, place};
 
-use crate::ends::Fault;
+use crate::ends::{Fault, test_width};
 
 // The closed interval between two open bounds.
 #[derive(Clone, Copy, Debug, PartialEq, Eq)]
@@ -31,9 +31,7 @@ fn place_of(a: i32, top: u32) -> Option<u32>
 pub fn close(n: u32, a: i32, b: i32) -> Result<Closed, Fault>
     ensures { closed_as result ≡ closing n a b }
 {
-    if n < 1 || 16 < n {
-        return Err(Fault::Width);
-    }
+    test_width(n)?;
     let top = bits::power(n);
     let p = place_of(a, top).ok_or(Fault::Fit)?;
     let q = place_of(b, top).ok_or(Fault::Fit)?;

@@ -1,14 +1,10 @@
 // Table 3 of source document 000: the open intervals of width 4 with three words.
 use crate::tallies;
-use intervals::Closed;
 use std::io;
 
 // The words of an open interval; none where there is no value between the bounds.
 fn words(n: u32, a: i32, b: i32) -> usize {
-    match intervals::close(n, a, b) {
-        Ok(Closed { low, high }) => tallies::words(n, low, high),
-        Err(_) => 0,
-    }
+    intervals::close(n, a, b).map_or(0, |ends| tallies::words(n, ends.low, ends.high))
 }
 
 pub fn run(rt: &impl Print) -> io::Result<()> {

@@ -1,4 +1,5 @@
-// Decimal numbers of at most 16 bits.
+// Decimal numbers of at most 16 bits: one reader for octets, lengths, protocols and ports. The standard library's `parse` would
+// take a sign and leading zeros.
 ghost use Rattle.std.specs.Prelude.{◌≡◌};
 ghost use Rattle.sheets.specs.Numbers.{number_after, number_of, number_or_none};
 

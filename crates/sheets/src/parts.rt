@@ -13,7 +13,7 @@ pub enum Protocol {
     Exact(u8),
 }
 
-// An interval of ports, whose ends are in order.
+// An interval of ports. `read_ports` hands out none whose ends are not in order.
 #[derive(Clone, Copy, Debug, PartialEq, Eq)]
 pub struct Ports {
     pub low: u16,

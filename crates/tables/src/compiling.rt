@@ -37,7 +37,8 @@ fn total(list: RuleList<'_>) -> u32
     words
 }
 
-// Writes the records of all rules, each rule's on from the first free record.
+// Writes the records of all rules, each rule's on from the first free record: the form that document 01 names, so the place is
+// counted here.
 #[tactic(auto, using(rules::proofs::Goods::fine_at), unfolding(entries::specs::Words::entries_of))]
 fn fill(list: RuleList<'_>, table: &mut [u8])
     requires { record_size * needed (rules_in list.records.now) ≤ length table.old }

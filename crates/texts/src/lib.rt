@@ -17,7 +17,8 @@ pub const LINE_SIZE: usize = 80;
 // A line of text, as far as it is written.
 pub type Line = ArrayVec<u8, LINE_SIZE>;
 
-// Adds x in decimal, and a tab.
+// Adds x in decimal, and a tab. That x is below 100,000 is asked here, of `word_line` and of `put_word`, whose promise may not
+// change. The room in the line is asked by each that adds to it, another at each, so a type would say it no shorter.
 #[tactic(auto, using(std::proofs::lemmas::Grind::common_steps, crate::proofs::Digits::decimal_few, crate::proofs::Digits::decimal_same))]
 fn push_number(line: &mut Line, x: u32)
     requires room { array_vec_len line.old + 6 ≤ line_size }
@@ -38,7 +39,7 @@ fn hex_digit(d: u8) -> u8
     b"0123456789ABCDEF"[usize::from(d)]
 }
 
-// Adds the bytes of s as two hex digits each, and a tab.
+// Adds the bytes of s as two hex digits each, and a tab. (The library's hex that allocates nothing is of lower case only.)
 #[tactic(auto, unfolding(crate::specs::Hex::hex_of))]
 fn push_hex(line: &mut Line, s: &[u8])
     requires { array_vec_len line.old + (2 * length s.now + 1) ≤ line_size }
