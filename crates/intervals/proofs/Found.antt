@@ -1,23 +1,25 @@
 -- What the check finds is what its definitions say: that some word matches, the lowest ill-formed word, and the smallest
 -- value on which the words and the interval disagree. Assumes nothing.
-use mathlib.Core.Bool.{Bool, true, false, ◌||◌, cond, not}
+use mathlib.Core.Bool.{Bool, true, false, cond, not}
 use mathlib.Core.List.{List, [], ◌∷◌, map}
-use mathlib.Core.Path.{◌≡◌, refl, sym, ap, ◌∙◌}
-use Prim.Native.Nat.{ℕ, zero, suc, ◌+◌, ◌≤◌, ◌<◌}
-use lib.ListN.{drop, get_or, length}
+use mathlib.Core.Path.{◌≡◌, refl, ◌∙◌}
+use Prim.Native.Nat.{ℕ, zero, suc, ◌+◌}
 use Rattle.std.proofs.lemmas.Iterator.Adapters.{position_from-zero}
-use Rattle.std.proofs.lemmas.List.{at_drop_all, at_drop_more}
-use Rattle.std.specs.List.{find, position, position_from, range_with_len}
+use Rattle.std.specs.List.{find, list_any, position, position_from, range_with_len}
 use Rattle.std.specs.Prelude.{Some, if◌then◌else◌}
 use Rattle.answers.specs.Answers.{done}
 use Rattle.blocks.specs.Tests.{formed?, matches?, some?}
 use Rattle.blocks.specs.declared.Word.{Word}
-use Rattle.blocks.specs.Words.{word_in}
-use Rattle.intervals.specs.Checks.{agree?, first_ill, verdict, verdict_as, words_in}
+use Rattle.intervals.specs.Checks.{agree?, first_ill, verdict, verdict_as}
 
 -- ---- words, as h reads them from the items of a list
 
 module _ {A : Type 0} (h : A → Word) where
+  pub some_any : (x : ℕ) (ps : List A) → list_any (λ p. matches? (h p) x) ps ≡ some? (map h ps) x
+  unfolding some?
+  some_any x [] = refl
+  some_any x (p ∷ ps) = rw (some_any x ps)
+
   ill_from : (n i : ℕ) (ps : List A) → position_from (λ p. not (formed? n (h p))) i ps ≡ first_ill n i (map h ps)
   unfolding first_ill
   ill_from n i [] = refl
@@ -29,27 +31,6 @@ module _ {A : Type 0} (h : A → Word) where
 
   pub ill_position : (n : ℕ) (ps : List A) → position (λ p. not (formed? n (h p))) ps ≡ first_ill n 0 (map h ps)
   ill_position n ps = position_from-zero (λ p. not (formed? n (h p))) ps ∙ ill_from n 0 ps
-
--- ---- whether some word of pairs matches, when the loop has come to pair i
-
-module _ (ps : List (List ℕ)) (x i : ℕ) where
-  abbrev left : ℕ → Bool
-  left j = some? (words_in (drop j ps)) x
-
-  turn : i < length ps → left i ≡ (matches? (word_in (get_or ps i [])) x || left (i + 1))
-  unfolding some?
-  turn h = at_drop_more (λ qs. some? (words_in qs) x) ps i [] h
-
-  module _ (h : i < length ps) (w : Word) (e : w ≡ word_in (get_or ps i [])) where
-    pub some_here : matches? w x ≡ true → left i ≡ true
-    some_here m = turn h ∙ ap (λ (b : Bool). b || left (i + 1)) (ap (λ (v : Word). matches? v x) (sym e) ∙ m)
-
-    pub some_past : matches? w x ≡ false → left i ≡ left (i + 1)
-    some_past m = turn h ∙ ap (λ (b : Bool). b || left (i + 1)) (ap (λ (v : Word). matches? v x) (sym e) ∙ m)
-
-  pub some_none : length ps ≤ i → left i ≡ false
-  unfolding some?
-  some_none h = at_drop_all (λ qs. some? (words_in qs) x) ps i h
 
 -- ---- the d values from x on
 

@@ -31,16 +31,11 @@ fn first_ill(n: u32, words: &[[u16; 2]]) -> Option<usize>
     words.iter().position(|pair| !Word::from(*pair).formed(n))
 }
 
-// One of the words matches x. A `for`, since `any` took half as long again.
+// One of the words matches x.
 fn some_match(words: &[[u16; 2]], x: u16) -> bool
     ensures { result ≡ some? (words_in words.now) x }
 {
-    for pair in words {
-        if Word::from(*pair).matches(x) {
-            return true;
-        }
-    }
-    false
+    words.iter().any(|pair| Word::from(*pair).matches(x))
 }
 
 // The interval and the words agree at x.

@@ -1,16 +1,14 @@
--- `intervals::checks::some_match` meets its contract: what is left of the words decides. Assumes nothing.
-use mathlib.Core.Path.{sym, ◌∙◌}
-use native.Mathlib.Omega.{arith}
-use Rattle.intervals.proofs.Found.{some_here, some_past, some_none}
+-- `intervals::checks::some_match` meets its contract: one of the list's pairs is a word that matches.
+-- Assumes nothing.
+use Rattle.std.proofs.Common.{rules, tests, ◌∙◌}
+use Rattle.std.proofs.lemmas.Iterator.{YieldsList-from_slice}
+use Rattle.std.proofs.lemmas.Iterator.Search.{any_from_yields_List}
+use Rattle.blocks.specs.Tests.{matches?}
+use Rattle.blocks.specs.Words.{word_in}
+use Rattle.intervals.proofs.Found.{some_any}
 use Rattle.intervals.proofs.checks.some_match.Goals as goal
 
-pub returns-then-matches : goal.returns-then-matches
-returns-then-matches c =
-    sym (c.loop-pair.invariant ∙ some_here c.args.words.now c.args.x c.loop-pair.pair-index (omega arith) _ c.from.ensures (sym c.matches.ensures ∙ c.if-matches.true))
-
-pub loop-pair-preserved : goal.loop-pair-preserved
-loop-pair-preserved c =
-    c.loop-pair.invariant ∙ some_past c.args.words.now c.args.x c.loop-pair.pair-index (omega arith) _ c.from.ensures (sym c.matches.ensures ∙ c.if-matches.false)
-
 pub returns : goal.returns
-returns c = sym (c.loop-pair.invariant ∙ some_none c.args.words.now c.args.x c.loop-pair.pair-index (omega arith))
+returns c =
+    any_from_yields_List (λ p. matches? (word_in p) c.args.x) _ _ _ c.any.ensures.ran (YieldsList-from_slice c.args.words.now cc) (λ x b q k. search (rules, tests))
+    ∙ some_any word_in _ _
