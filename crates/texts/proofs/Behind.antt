@@ -1,15 +1,12 @@
--- Texts that are put behind each other are one text, and a put text leaves the list as long as it was. Assumes nothing.
+-- Texts that are put behind each other are one text. Assumes nothing.
 use mathlib.Core.List.{List, [], ◌∷◌, ◌++◌}
-use mathlib.Core.Path.{◌≡◌, refl, sym}
+use mathlib.Core.Path.{◌≡◌, refl}
 use Prim.Native.Nat.{ℕ, ◌+◌, ◌≤◌}
 use native.Mathlib.Omega.{arith}
 use lib.ListN.{length, length-append}
-use Rattle.fields.proofs.Writing.{write_length, write_none, write_then}
+use Rattle.fields.proofs.Writing.{write_then}
 use Rattle.fields.specs.Writes.{write_at}
 use Rattle.texts.specs.Lines.{Puts}
-
-pub puts_none : (d : List ℕ) (i : ℕ) → Puts d i [] i d
-puts_none d i = record { next = omega arith; leaves = sym (write_none d i) }
 
 -- one byte
 pub puts_one : (d e : List ℕ) (i r x : ℕ) → e ≡ write_at d i (x ∷ []) → r ≡ i + 1 → Puts d i (x ∷ []) r e
@@ -18,9 +15,6 @@ puts_one d e i r x h n = record { next = n; leaves = h }
 module _ (d e : List ℕ) (i j : ℕ) (s : List ℕ) (p : Puts d i s j e) (room : j ≤ length d) where
   fits : i + length s ≤ length d
   fits = omega (arith, p.next)
-
-  pub puts_length : length e ≡ length d
-  puts_length = write_length d e i s p.leaves fits
 
   pub puts_then : (f : List ℕ) (k : ℕ) (u : List ℕ) → Puts e j u k f → Puts d i (s ++ u) k f
   puts_then f k u q = record {
