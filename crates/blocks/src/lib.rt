@@ -3,6 +3,8 @@
 #![tactic(auto)]
 
 ghost use Rattle.std.specs.Prelude.{◌≡◌, ◌≤◌};
+ghost use Rattle.blocks.specs.Blocks.{Closed};
+ghost use Rattle.blocks.specs.Counting.{count_of};
 ghost use Rattle.blocks.specs.Lowest.{Free};
 ghost use Rattle.blocks.specs.Tests.{formed?, matches?};
 ghost use Rattle.blocks.specs.Words.{word_in};
@@ -62,4 +64,17 @@ pub fn free_bits(n: u32, next: u32, end: u32) -> u32
         return 0;
     }
     n.min(bits::low_zeros(next)).min(bits::highest(end - next))
+}
+
+// How many words low..high has.
+pub fn count(n: u32, low: u32, high: u32) -> u32
+    requires { Closed n low high }
+    ensures { result ≡ count_of n low high }
+{
+    Interval {
+        width: n,
+        low,
+        high,
+    }
+    .count()
 }

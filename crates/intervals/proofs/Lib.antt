@@ -3,6 +3,7 @@ pub mod Found
 pub mod Pairs
 pub mod Verdicts
 pub mod Filling
+pub mod Numbers
 pub mod Steps
 pub mod Closing
 pub mod Checking

@@ -8,6 +8,7 @@ use Rattle.std.specs.Prelude.{drop, map, take}
 use Rattle.std.specs.Simd.{first_chunks}
 use Rattle.std.proofs.lemmas.List.{drop-take, get_or-take, take-take}
 use Rattle.records.specs.Entries.{action_of, mask_of_record, number_of, value_of}
+use Rattle.records.specs.Keys.{key_at}
 use Rattle.records.specs.Layout.{action_at, key_size, number_at, record_size, rule_size}
 use Rattle.records.specs.Rules.{rule_at, rules_of}
 
@@ -16,6 +17,10 @@ use Rattle.records.specs.Rules.{rule_at, rules_of}
 pub rule_at_take : (l : List ℕ) → rule_at (take rule_size l) ≡ rule_at l
 unfolding rule_at
 rule_at_take l = grind (arith, get_or-take)
+
+pub key_at_take : (l : List ℕ) → key_at (take key_size l) ≡ key_at l
+unfolding key_at
+key_at_take l = grind (arith, get_or-take)
 
 pub rules_chunks : (n : ℕ) (l : List ℕ) → rules_of n l ≡ map rule_at (first_chunks rule_size n l)
 unfolding rules_of

@@ -2,9 +2,11 @@
 // Sizes, offsets and limits are named here and in specs/ and nowhere else.
 #![tactic(auto)]
 
-ghost use Rattle.std.specs.Prelude.{◌≡◌, ◌≤◌};
+ghost use Rattle.std.specs.Prelude.{◌≡◌, ◌+◌, ◌≤◌, length};
+ghost use Rattle.fields.specs.Writes.{write_at};
 ghost use Rattle.records.specs.Keys.{key_at, key_bytes};
 ghost use Rattle.records.specs.Entries.{entry_bytes};
+ghost use Rattle.records.specs.Layout.{key_size, rule_size};
 ghost use Rattle.records.specs.Rules.{rule_at, rule_bytes};
 
 mod actions;
@@ -161,6 +163,40 @@ impl Rule {
             self.action,
         ]
     }
+}
+
+// The rule at the start of s.
+#[tactic(auto, using(crate::proofs::Chunks::rule_at_take))]
+pub fn read_rule(s: &[u8]) -> Rule
+    requires { rule_size ≤ length s.now }
+    ensures { result ≡ rule_at s.now }
+{
+    Rule::from_bytes(s.first_chunk::<RULE_SIZE>().unwrap())
+}
+
+// Writes a rule.
+pub fn put_rule(t: &mut [u8], at: usize, r: Rule)
+    requires { at + rule_size ≤ length t.old }
+    ensures { t.new ≡ write_at t.old at (rule_bytes r) }
+{
+    fields::put(t, at, &r.to_bytes());
+}
+
+// The header at the start of s.
+#[tactic(auto, using(crate::proofs::Chunks::key_at_take))]
+pub fn read_key(s: &[u8]) -> Key
+    requires { key_size ≤ length s.now }
+    ensures { result ≡ key_at s.now }
+{
+    Key::from_bytes(s.first_chunk::<KEY_SIZE>().unwrap())
+}
+
+// Writes a key laid out as a header.
+pub fn put_key(t: &mut [u8], at: usize, k: Key)
+    requires { at + key_size ≤ length t.old }
+    ensures { t.new ≡ write_at t.old at (key_bytes k) }
+{
+    fields::put(t, at, &k.to_bytes());
 }
 
 // A table record: a word of all five fields, the number of the rule that it belongs to, and that rule's action, which is a byte

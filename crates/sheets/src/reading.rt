@@ -66,10 +66,10 @@ fn read_rows(text: &[u8], rules: &mut ArrayVec<Rule, RULE_LIMIT>) -> Result<(), 
             break;
         }
         let line = i as u32 + 1;
-        let (row, others) = cut(rest, LINE_FEED).ok_or(BadLine {
-            line,
-            part: Part::Line,
-        })?;
+        let Some((row, others)) = cut(rest, LINE_FEED) else {
+            let part = Part::Line;
+            return Err(BadLine { line, part });
+        };
         rules.push(read_row(row).map_err(|part| BadLine { line, part })?);
         rest = others;
     }

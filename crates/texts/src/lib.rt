@@ -69,6 +69,32 @@ fn push_action(line: &mut Line, action: u8)
     line.push(b'\n');
 }
 
+// Writes x in decimal at `at`; the place after it.
+#[tactic(auto, using(crate::proofs::Digits::decimal_few, crate::proofs::Digits::decimal_same))]
+pub fn put_decimal(t: &mut [u8], at: usize, x: u32) -> usize
+    requires room { at + 5 ≤ length t.old }
+    requires few { x < 100000 }
+    ensures { Puts t.old at (decimal x) result t.new }
+{
+    let mut digits = itoa::Buffer::new();
+    let text = digits.format(x).as_bytes();
+    fields::put(t, at, text);
+    at + text.len()
+}
+
+// Writes the bytes of s as two hex digits each; the place after them.
+pub fn put_hex(t: &mut [u8], at: usize, s: &[u8]) -> usize
+    requires { at + 2 * length s.now ≤ length t.old }
+    ensures { Puts t.old at (hex_of s.now) result t.new }
+{
+    let mut to = at;
+    for byte in s {
+        fields::put(t, to, &[hex_digit(byte / 16), hex_digit(byte % 16)]);
+        to += 2;
+    }
+    to
+}
+
 // The line of a record, which has this index.
 pub fn word_line(index: u32, bytes: &[u8; RECORD_SIZE]) -> Line
     requires { index < 100000 }
