@@ -1,5 +1,5 @@
--- A list of bytes cut into records: what is read at a record's start is read from its own bytes, and the rules of the bytes
--- are those of the records. Assumes nothing.
+-- A list of bytes cut into records: what is read at a record's start is read from its own bytes, a header too, and the rules of
+-- the bytes are those of the records. Assumes nothing.
 use mathlib.Core.List.{List}
 use mathlib.Core.Path.{◌≡◌, refl, ap, ◌∙◌}
 use Prim.Native.Nat.{ℕ, zero, suc, ◌-◌}
@@ -18,14 +18,16 @@ pub rule_at_take : (l : List ℕ) → rule_at (take rule_size l) ≡ rule_at l
 unfolding rule_at
 rule_at_take l = grind (arith, get_or-take)
 
-pub key_at_take : (l : List ℕ) → key_at (take key_size l) ≡ key_at l
-unfolding key_at
-key_at_take l = grind (arith, get_or-take)
-
 pub rules_chunks : (n : ℕ) (l : List ℕ) → rules_of n l ≡ map rule_at (first_chunks rule_size n l)
 unfolding rules_of
 rules_chunks zero l = refl
 rules_chunks (suc n) l = rw (rule_at_take l, rules_chunks n (drop rule_size l))
+
+-- ---- headers
+
+pub key_at_take : (l : List ℕ) → key_at (take key_size l) ≡ key_at l
+unfolding key_at
+key_at_take l = grind (arith, get_or-take)
 
 -- ---- table records
 

@@ -200,7 +200,7 @@ pub fn put_key(t: &mut [u8], at: usize, k: Key)
 }
 
 // A table record: a word of all five fields, the number of the rule that it belongs to, and that rule's action, which is a byte
-// as in the rule: `put_rule` writes it as it is.
+// as in the rule: `put_rule` of entries writes it as it is.
 #[derive(Clone, Copy, Debug, PartialEq, Eq)]
 pub struct Entry {
     pub value: Key,
