@@ -1,5 +1,6 @@
 // The C face: one function for each call, with no logic of its own. Each hands its arguments on and turns the outcome into
-// document 01's number and values.
+// document 01's number and values. Programs may use them, and no crate can depend on a static library, so tablet_c exports them
+// under the same clauses again.
 ghost use Rattle.std.specs.Prelude.{◌≡◌};
 ghost use Rattle.intervals.specs.Bounds.{closing};
 ghost use Rattle.intervals.specs.Checks.{checking};

@@ -87,12 +87,10 @@ pub fn put_hex(t: &mut [u8], at: usize, s: &[u8]) -> usize
     requires { at + 2 * length s.now ≤ length t.old }
     ensures { Puts t.old at (hex_of s.now) result t.new }
 {
-    let mut to = at;
-    for byte in s {
-        fields::put(t, to, &[hex_digit(byte / 16), hex_digit(byte % 16)]);
-        to += 2;
+    for (i, byte) in s.iter().enumerate() {
+        fields::put(t, at + 2 * i, &[hex_digit(byte / 16), hex_digit(byte % 16)]);
     }
-    to
+    at + 2 * s.len()
 }
 
 // The line of a record, which has this index.

@@ -4,8 +4,5 @@ use Rattle.fields.specs.Writes.{write_at}
 use Rattle.texts.specs.Hex.{hex_of}
 use Rattle.texts.proofs.put_hex.Given as goal
 
-abbrev pub invariant-loop-byte : goal.invariant-loop-byte
-invariant-loop-byte l = record {
-  place : l.to ≡ l.at + 2 * l.byte-index;
-  left : write_at l.t l.to (hex_of (drop l.byte-index l.s)) ≡ write_at l.initial.t l.at (hex_of l.s);
-}
+abbrev pub invariant-loop-i : goal.invariant-loop-i
+invariant-loop-i l = write_at l.t (l.at + 2 * l.i) (hex_of (drop l.i l.s)) ≡ write_at l.initial.t l.at (hex_of l.s)

@@ -4,6 +4,11 @@ use mathlib.Core.Path.{refl, ◌∙◌}
 use Rattle.sheets.proofs.Joining.{address_parts, first_none, fourth_none, length_none, second_none, third_none}
 use Rattle.sheets.proofs.parts.read_address.Goals as goal
 
+pub returns : goal.returns
+returns c =
+    c.joined.ensures
+    ∙ address_parts _ c.halves.ensures c.halves-2.ensures c.halves-3.ensures c.halves-4.ensures c.in_ok-octet.ensures c.in_ok-octet-2.ensures c.in_ok-octet-3.ensures c.in_ok-octet-4.ensures c.in_ok-number.ensures
+
 pub returns-in_err-octet : goal.returns-in_err-octet
 returns-in_err-octet c =
     rw c.from_residual.ensures
@@ -33,8 +38,3 @@ returns-in_err-number c =
     rw c.from_residual-in_err-number.ensures
     (length_none _ _ _ _
     ∙ address_parts _ c.halves.ensures c.halves-2.ensures c.halves-3.ensures c.halves-4.ensures refl refl refl refl c.in_err-number.ensures)
-
-pub returns : goal.returns
-returns c =
-    c.joined.ensures
-    ∙ address_parts _ c.halves.ensures c.halves-2.ensures c.halves-3.ensures c.halves-4.ensures c.in_ok-octet.ensures c.in_ok-octet-2.ensures c.in_ok-octet-3.ensures c.in_ok-octet-4.ensures c.in_ok-number.ensures
