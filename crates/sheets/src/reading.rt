@@ -49,6 +49,9 @@ fn many(text: &[u8]) -> bool
 {
     let mut rest = text;
     for _ in 0..RULE_LIMIT {
+        if rest.is_empty() {
+            return false;
+        }
         rest = halves(rest, LINE_FEED).1;
     }
     !rest.is_empty()
