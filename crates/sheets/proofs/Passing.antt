@@ -15,11 +15,11 @@ some_left : (s : List ℕ) → not (eqb (length s) 0) ≡ ltb 0 (length s)
 some_left [] = refl
 some_left (x ∷ s) = simp (ne_eqb (suc (length s)) 0 (λ (z : suc (length s) ≡ 0). omega arith), lt-ltb 0 (suc (length s)) (omega arith))
 
-nothing_after : (k : ℕ) (s : List ℕ) → length s ≡ 0 → ltb 0 (length (after_lines k s)) ≡ false
+none_left_after : (k : ℕ) (s : List ℕ) → length s ≡ 0 → ltb 0 (length (after_lines k s)) ≡ false
 unfolding after_lines after
-nothing_after zero [] z = refl
-nothing_after (suc k) [] z = nothing_after k [] refl
-nothing_after k (x ∷ s) z = absurd (omega arith)
+none_left_after zero [] z = refl
+none_left_after (suc k) [] z = none_left_after k [] refl
+none_left_after k (x ∷ s) z = absurd (omega arith)
 
 -- k of n lines of s are passed, and the rest is left
 module _ (n : ℕ) (s : List ℕ) (k : ℕ) (rest : List ℕ) (l : after_lines n s ≡ after_lines (n - k) rest) where
@@ -31,7 +31,7 @@ module _ (n : ℕ) (s : List ℕ) (k : ℕ) (rest : List ℕ) (l : after_lines n
 
   -- none stands after them where none is left now
   pub passed_none : true ≡ eqb (length rest) 0 → false ≡ ltb 0 (length (after_lines n s))
-  passed_none e = rw (l, nothing_after (n - k) rest (eqb-true (length rest) 0 (sym e)))
+  passed_none e = rw (l, none_left_after (n - k) rest (eqb-true (length rest) 0 (sym e)))
 
   -- a byte stands after all of them where one is left
   pub passed_end : n ≤ k → {b : Bool} → b ≡ eqb (length rest) 0 → not b ≡ ltb 0 (length (after_lines n s))
