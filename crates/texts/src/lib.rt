@@ -17,8 +17,8 @@ pub const LINE_SIZE: usize = 80;
 // A line of text, as far as it is written.
 pub type Line = ArrayVec<u8, LINE_SIZE>;
 
-// Adds x in decimal, and a tab. That x is below 100,000 is asked here, of `word_line` and of `put_word`, whose promise may not
-// change. The room in the line is asked by each that adds to it, another at each, so a type would say it no shorter.
+// Adds x in decimal, and a tab. That x is below 100,000 is asked here, of `put_decimal`, of `word_line` and of `put_word`, whose
+// promise may not change. The room in the line is asked by each that adds to it, another at each, so a type would say it no shorter.
 #[tactic(auto, using(std::proofs::lemmas::Grind::common_steps, crate::proofs::Digits::decimal_few, crate::proofs::Digits::decimal_same))]
 fn push_number(line: &mut Line, x: u32)
     requires room { array_vec_len line.old + 6 ≤ line_size }
@@ -69,7 +69,7 @@ fn push_action(line: &mut Line, action: u8)
     line.push(b'\n');
 }
 
-// Writes x in decimal at `at`; the place after it.
+// Writes x in decimal at `at`; the place after it. A place beside the buffer here and below, since what they promise may not change.
 #[tactic(auto, using(crate::proofs::Digits::decimal_few, crate::proofs::Digits::decimal_same))]
 pub fn put_decimal(t: &mut [u8], at: usize, x: u32) -> usize
     requires room { at + 5 ≤ length t.old }
